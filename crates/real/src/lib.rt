@@ -1,0 +1,59 @@
+// What the Rust takes from f64: is_nan, abs, max; and inf_norm. The literals that the crates above share.
+ghost use mathlib.Core.Path.{_≡_};
+ghost use Prim.Native.Nat.{_≤_};
+ghost use lib.Ieee.{isNan};
+ghost use Rattle.real.specs.Real.{absolute, maxOf};
+ghost use Rattle.real.specs.Norm.{normOf};
+
+// Below this a mismatch counts as solved.
+pub const TOL: f64 = 1e-8;
+
+// The margin of the limit tests, and that of the way back.
+pub const Q_TOL: f64 = 1e-6;
+
+pub const V_BACK: f64 = 1e-6;
+
+pub fn is_nan(x: f64) -> bool
+    ensures { λ r. ⌜ r ≡ isNan x ⌝ }
+{
+    x != x
+}
+
+// The sign is cleared, that of -0.0 too.
+pub fn abs(x: f64) -> f64
+    ensures { λ r. ⌜ r ≡ absolute x ⌝ }
+{
+    if x < 0.0 {
+        return -x;
+    }
+    if x == 0.0 {
+        return 0.0;
+    }
+    x
+}
+
+// The larger. Of a NaN and a number it is the number, as `f64::max` has it.
+pub fn max(a: f64, b: f64) -> f64
+    ensures { λ r. ⌜ r ≡ maxOf a b ⌝ }
+{
+    if is_nan(a) {
+        return b;
+    }
+    if a < b { b } else { a }
+}
+
+// The norm of the first n places.
+pub fn inf_norm(n: usize, v: &[f64; 64]) -> f64
+    requires { ⌜ n ≤ 64 ⌝ }
+    ensures { λ r. ⌜ r ≡ normOf n (now (v .entry)) ⌝ }
+{
+    let mut norm = 0.0;
+    for i in 0..n {
+        let x = v[i];
+        if is_nan(x) {
+            return x;
+        }
+        norm = max(norm, abs(x));
+    }
+    norm
+}
