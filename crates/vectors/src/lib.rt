@@ -1,0 +1,56 @@
+// What the test programs share: words and doubles from the bytes of their input, and whether two doubles are one value.
+ghost use mathlib.Core.Path.{_≡_};
+ghost use mathlib.Core.Bool.{true};
+ghost use Prim.Native.Nat.{_+_, _≤_, _<_};
+ghost use lib.ListN.{length};
+ghost use lib.Ieee.{binary64, ofBits};
+ghost use Rattle.vectors.specs.Words.{pairOf, wordOf};
+
+fn wide(x: u8) -> u64
+    ensures { λ r. ⌜ (r ≡ x) × (r < 256) ⌝ }
+{
+    x as u64
+}
+
+// Two bytes from a place on, the first the higher.
+fn pair(s: &[u8], at: usize) -> u64
+    requires { ⌜ at + 2 ≤ length (now s) ⌝ }
+    ensures { λ r. ⌜ (r ≡ pairOf at (now (s .entry))) × (r < 65536) ⌝ }
+{
+    wide(s[at]) * 256 + wide(s[at + 1])
+}
+
+// Eight bytes from a place on, the first the highest.
+pub fn word(s: &[u8], at: usize) -> u64
+    requires { ⌜ at + 8 ≤ length (now s) ⌝ }
+    ensures { λ r. ⌜ r ≡ wordOf at (now (s .entry)) ⌝ }
+{
+    let a = pair(s, at);
+    let b = pair(s, at + 2);
+    let c = pair(s, at + 4);
+    let d = pair(s, at + 6);
+    ((a * 65536 + b) * 65536 + c) * 65536 + d
+}
+
+// The double of a bit pattern. A pattern of a NaN is the one NaN.
+pub fn double(w: u64) -> f64
+    ensures { λ r. ⌜ r ≡ ofBits binary64 w ⌝ }
+{
+    if w % 0x8000_0000_0000_0000 > 0x7ff0_0000_0000_0000 {
+        return 0.0 / 0.0;
+    }
+    f64::from_bits(w)
+}
+
+// Whether two doubles are one value: the same bits, or both NaN.
+pub fn same(x: f64, y: f64) -> bool
+    ensures { λ r. ⌜ (r ≡ true → x ≡ y) × (x ≡ y → r ≡ true) ⌝ }
+{
+    if x != x {
+        return y != y;
+    }
+    if y != y {
+        return false;
+    }
+    f64::to_bits(x) == f64::to_bits(y)
+}
