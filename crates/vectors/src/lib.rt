@@ -1,10 +1,9 @@
 // What the test programs share: words and doubles from the bytes of their input, and whether two doubles are one value.
 ghost use mathlib.Core.Path.{_≡_};
-ghost use mathlib.Core.Bool.{true};
 ghost use Prim.Native.Nat.{_+_, _≤_, _<_};
 ghost use lib.ListN.{length};
 ghost use lib.Ieee.{binary64, ofBits};
-ghost use Rattle.vectors.specs.Words.{pairOf, wordOf};
+ghost use Rattle.vectors.specs.Words.{pairOf, wordOf, doubleAt, Tells};
 
 fn wide(x: u8) -> u64
     ensures { λ r. ⌜ (r ≡ x) × (r < 256) ⌝ }
@@ -42,9 +41,17 @@ pub fn double(w: u64) -> f64
     f64::from_bits(w)
 }
 
+// The double of eight bytes from a place on.
+pub fn double_at(s: &[u8], at: usize) -> f64
+    requires { ⌜ at + 8 ≤ length (now s) ⌝ }
+    ensures { λ r. ⌜ r ≡ doubleAt at (now (s .entry)) ⌝ }
+{
+    double(word(s, at))
+}
+
 // Whether two doubles are one value: the same bits, or both NaN.
 pub fn same(x: f64, y: f64) -> bool
-    ensures { λ r. ⌜ (r ≡ true → x ≡ y) × (x ≡ y → r ≡ true) ⌝ }
+    ensures { λ r. ⌜ Tells r (x ≡ y) ⌝ }
 {
     if x != x {
         return y != y;
