@@ -1,0 +1,55 @@
+-- `mix::mix` meets its contract, by those of its calls. Its float constants are whole numbers: the largest word rounds up to 2^64. Assumes nothing.
+use mathlib.Core.Path.{_≡_, refl}
+use Prim.Native.Nat.{ℕ, _-_, _^_}
+use lib.Bits.{bitXor}
+use lib.IntN.{pos}
+use lib.Ieee.{Float, binary64, ofBits, ofInt, sub, mul, div}
+use borrow.Author.Needs.{needs}
+use Rattle.mix.specs.Noise.{times, folded, mixOf}
+use Rattle.mix.proofs.mix.Statement.{statement}
+use Rattle.mix.proofs.mix.Tie as tie
+
+one : ofBits binary64 0x3ff0_0000_0000_0000 ≡ ofInt binary64 (pos 1)
+unfolding ofBits ofInt
+one = refl
+
+two : ofBits binary64 0x4000_0000_0000_0000 ≡ ofInt binary64 (pos 2)
+unfolding ofBits ofInt
+two = refl
+
+all : ofBits binary64 0x43f0_0000_0000_0000 ≡ ofInt binary64 (pos (2 ^ 64 - 1))
+unfolding ofBits ofInt
+all = refl
+
+assembled : (a b m n y : ℕ) (v : Float)
+    → m ≡ times a 0x9E37_79B9_7F4A_7C15
+    → n ≡ times b 0xD1B5_4A32_D192_ED03
+    → y ≡ times (folded (bitXor m n)) 0xFF51_AFD7_ED55_8CCD
+    → v ≡ ofInt binary64 (pos (folded y))
+    → sub binary64 (mul binary64 (div binary64 v (ofBits binary64 0x43f0_0000_0000_0000)) (ofBits binary64 0x4000_0000_0000_0000)) (ofBits binary64 0x3ff0_0000_0000_0000) ≡ mixOf a b
+unfolding mixOf
+assembled a b m n y v em en ey ev = rw (ev, ey, em, en, all, two, one)
+
+wrapping-mul-requires : tie.Need-wrapping-mul-requires
+wrapping-mul-requires c κs = search needs
+
+wrapping-mul-requires-2 : tie.Need-wrapping-mul-requires-2
+wrapping-mul-requires-2 c κs = search needs
+
+wrapping-mul-requires-3 : tie.Need-wrapping-mul-requires-3
+wrapping-mul-requires-3 c κs = search needs
+
+nearest-u64-to-f64-requires : tie.Need-nearest-u64-to-f64-requires
+nearest-u64-to-f64-requires c κs = search needs
+
+returns : tie.Need-returns
+returns c =
+    let y = c .before in
+    let n = y .before in
+    let m = n .before in
+    let s = m .before .args in
+    assembled (s .a) (s .b) (m .wrapping-mul .result) (n .wrapping-mul2 .result) (y .wrapping-mul3 .result) (c .nearest-u64-to-f64 .result)
+    (m .wrapping-mul .ensures) (n .wrapping-mul2 .ensures) (y .wrapping-mul3 .ensures) (c .nearest-u64-to-f64 .ensures)
+
+pub mix-spec : {M : Type 1} → statement M
+mix-spec = tie.close (tie.spec wrapping-mul-requires wrapping-mul-requires-2 wrapping-mul-requires-3 nearest-u64-to-f64-requires returns)
