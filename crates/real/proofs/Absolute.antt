@@ -1,8 +1,8 @@
 -- The ways through `abs`: what its tests say of a double. Assumes nothing.
 use mathlib.Core.Path.{_≡_, refl, sym, ap, _∙_, subst}
-use mathlib.Core.Bool.{Bool, true, false, _||_, Bool·beq, true≢false}
-use Prim.Native.Nat.{ℕ, zero, suc, _+_, _*_, _^_, _≤_, _<_, zero-le}
-use native.Mathlib.Nat.{zero-mul, mul-one, one-mul, add-zero, mul-pos, zero-lt-suc}
+use mathlib.Core.Bool.{true, false, _||_, Bool·beq, true≢false}
+use Prim.Native.Nat.{zero, suc, _+_, _*_, _^_}
+use native.Mathlib.Nat.{zero-mul, mul-pos, zero-lt-suc}
 use native.Mathlib.Omega.{arith}
 use lib.Dec.{T, eqb, eqb→eq}
 use borrow.Author.Tests.{lt-ltb, le-ltb}

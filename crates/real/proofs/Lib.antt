@@ -1,3 +1,4 @@
 pub mod Absolute
+pub mod Rounding
 pub mod Literals
 pub mod Examples

@@ -1,6 +1,6 @@
 -- What 01 takes of the Rust's f64 ("`is_nan`, `abs`, `max` .. are worked out by the program"): is_nan is lib.Ieee's isNan.
 pub mod Laws
-use mathlib.Core.Bool.{true, false, cond}
+use mathlib.Core.Bool.{false, cond}
 use lib.Ieee.{Float, nan, inf, fin, lt, isNan}
 
 -- the absolute value: the number with its sign cleared

@@ -1,8 +1,8 @@
 -- What the two tests of `sin_cos` say: that x is at least -1024 and at most 1024, or else that it lies outside or is NaN. Assumes nothing.
-use mathlib.Core.Path.{_≡_, refl, sym, ap, _∙_, subst}
+use mathlib.Core.Path.{_≡_, refl, sym, _∙_, subst}
 use mathlib.Core.Bool.{Bool, true, false, not, _&&_, _||_, true≢false}
 use mathlib.Core.Logic.{inl, inr}
-use Prim.Native.Nat.{ℕ, _+_, _*_, _≤_, _<_}
+use Prim.Native.Nat.{ℕ, _+_, _*_, _<_}
 use native.Mathlib.Nat.{le-of-lt, le-of-eq, eq-or-lt-of-le, lt-irrefl}
 use native.Mathlib.Omega.{arith}
 use lib.Dec.{ltb, eqb}

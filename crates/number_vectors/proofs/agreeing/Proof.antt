@@ -1,6 +1,6 @@
 -- `number_vectors::agreeing` meets its contract: the vectors passed agree. Assumes nothing.
 use Prim.Native.Nat.{ℕ, _*_, _-_, _≤_, _<_}
-use mathlib.Core.Path.{_≡_, sym, _∙_}
+use mathlib.Core.Path.{sym, _∙_}
 use mathlib.Core.Bool.{true≢false}
 use borrow.Author.Count.{below-more}
 use borrow.Author.Tests.{not-true, not-false}

@@ -1,5 +1,5 @@
 -- `number_vectors::holds` meets its contract: the first word tells the kind. Assumes nothing.
-use mathlib.Core.Path.{_≡_, sym, _∙_}
+use mathlib.Core.Path.{sym, _∙_}
 use borrow.Author.Needs.{needs}
 use borrow.Author.Tests.{eq-eqb, ne-eqb}
 use Rattle.number_vectors.proofs.holds.Statement.{statement}

@@ -1,6 +1,6 @@
 -- `number_vectors::sin_cos_holds` meets its contract: a pair is what it should be where both of its parts are. Assumes nothing.
-use mathlib.Core.Path.{_≡_, refl, sym, ap, _∙_}
-use mathlib.Core.Bool.{Bool, true, false}
+use mathlib.Core.Path.{_≡_, sym, ap, _∙_}
+use mathlib.Core.Bool.{Bool, false}
 use lib.Ieee.{Float}
 use borrow.Author.Needs.{needs}
 use Rattle.trig.specs.declared.SinCos.{SinCos}

@@ -1,6 +1,6 @@
 -- `vectors::double` meets its contract: above the pattern of infinity, the sign aside, a pattern is a NaN's. Assumes nothing.
-use mathlib.Core.Path.{_≡_, sym, ap, _∙_, subst}
-use mathlib.Core.Bool.{Bool, false, not}
+use mathlib.Core.Path.{sym, _∙_, subst}
+use mathlib.Core.Bool.{Bool, not}
 use borrow.Author.Needs.{needs}
 use borrow.Author.Tests.{lt-ltb, le-ltb}
 use lib.Dec.{T}

@@ -1,5 +1,5 @@
 -- `vectors::same` meets its contract: a double that is no NaN is given back by its bits. Assumes nothing.
-use mathlib.Core.Path.{_≡_, refl, sym, ap, _∙_, subst}
+use mathlib.Core.Path.{_≡_, sym, ap, _∙_, subst}
 use mathlib.Core.Bool.{Bool, true, false, not}
 use borrow.Author.Tests.{eq-eqb, eqb-true}
 use lib.Dec.{T}
