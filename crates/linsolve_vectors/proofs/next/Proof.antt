@@ -1,0 +1,57 @@
+-- `linsolve_vectors::next` meets its contract: only the last two ways tell of a system, as `agrees` found it. Assumes nothing.
+use mathlib.Core.Bool.{true≢false}
+use mathlib.Core.Path.{sym, _∙_}
+use native.Mathlib.Omega.{arith}
+use borrow.Author.Needs.{needs}
+use Rattle.linsolve_vectors.proofs.next.Statement.{statement}
+use Rattle.linsolve_vectors.proofs.next.Tie as tie
+
+returns : tie.Need-returns
+returns c = record { small = omega arith; agreed = λ e. absurd (omega arith); differed = λ e. absurd (omega arith) }
+
+returns-2 : tie.Need-returns-2
+returns-2 c = record { small = omega arith; agreed = λ e. absurd (omega arith); differed = λ e. absurd (omega arith) }
+
+returns-3 : tie.Need-returns-3
+returns-3 c = record { small = omega arith; agreed = λ e. absurd (omega arith); differed = λ e. absurd (omega arith) }
+
+returns-4 : tie.Need-returns-4
+returns-4 c =
+    let word = c .before .before .before .before .before .before .before .before .before .before .before .before .word .ensures in
+    let agrees = c .before .agrees .ensures .0 (c .if4 .taken) in
+    record { small = omega arith; agreed = λ e. rw (← word, ← (c .before .before .word2 .ensures)) agrees; differed = λ e. absurd (omega arith) }
+
+returns-5 : tie.Need-returns-5
+returns-5 c =
+    let word = c .before .before .before .before .before .before .before .before .before .before .before .before .word .ensures in
+    let agrees = c .before .agrees .ensures .1 in
+    record {
+      small = omega arith;
+      agreed = λ e. absurd (omega arith);
+      differed = λ e a. true≢false (sym (agrees (rw (word, c .before .before .word2 .ensures) a)) ∙ c .if4 .left);
+    }
+
+pub next-spec : {M : Type 1} → statement M
+next-spec =
+    tie.close
+    (tie.spec
+    (λ c κs. search needs)
+    (λ c. search needs)
+    returns
+    (λ c κs. search needs)
+    (λ c. search needs)
+    returns-2
+    (λ c κs. search needs)
+    (λ c. search needs)
+    (λ c κs. search needs)
+    (λ c. search needs)
+    (λ c. search needs)
+    returns-3
+    (λ c κs. search needs)
+    (λ c κs. search needs)
+    (λ c. search needs)
+    (λ c. search needs)
+    returns-4
+    (λ c. search needs)
+    (λ c. search needs)
+    returns-5)
