@@ -29,6 +29,12 @@ pub struct AcPfLayout {
     pub dim: usize,
 }
 
+// Magnitudes and angles of the buses; the places past them are 0.0.
+pub struct Point {
+    pub vm: [f64; 32],
+    pub va: [f64; 32],
+}
+
 // The reactive limits of each bus, and whether it has a generator.
 pub struct Limits {
     pub qmin: [f64; 32],

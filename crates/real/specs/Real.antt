@@ -1,4 +1,4 @@
--- What 01 takes of the Rust's f64 ("`is_nan`, `abs`, `max` .. are worked out by the program"): is_nan is lib.Ieee's isNan.
+-- What 01 takes of the Rust's f64 ("`is_nan`, `abs`, `max` .. are worked out by the program"): is_nan is lib.Ieee's isNan, and is_finite lib.Ieee.Scale's finite.
 pub mod Laws
 use mathlib.Core.Bool.{false, cond}
 use lib.Ieee.{Float, nan, inf, fin, lt, isNan}

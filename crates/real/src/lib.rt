@@ -1,7 +1,9 @@
 // What the Rust takes from f64: is_nan, abs, max; and inf_norm. The literals that the crates above share.
 ghost use mathlib.Core.Path.{_≡_};
+ghost use mathlib.Core.Bool.{_||_};
 ghost use Prim.Native.Nat.{_≤_};
 ghost use lib.Ieee.{isNan};
+ghost use lib.Ieee.Scale.{finite};
 ghost use Rattle.real.specs.Real.{absolute, maxOf};
 ghost use Rattle.real.specs.Norm.{normOf};
 
@@ -17,6 +19,22 @@ pub fn is_nan(x: f64) -> bool
     ensures { λ r. ⌜ r ≡ isNan x ⌝ }
 {
     x != x
+}
+
+// Neither NaN nor an infinity.
+pub fn is_finite(x: f64) -> bool
+    ensures { λ r. ⌜ r ≡ finite x ⌝ }
+{
+    if x < 1.0 / 0.0 {
+        return x > -1.0 / 0.0;
+    }
+    false
+}
+
+pub fn or(a: bool, b: bool) -> bool
+    ensures { λ r. ⌜ r ≡ (a || b) ⌝ }
+{
+    if a { true } else { b }
 }
 
 // The sign is cleared, that of -0.0 too.

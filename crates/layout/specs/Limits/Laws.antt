@@ -1,8 +1,8 @@
 -- The sums as a loop over the generators makes them; and that another bus's generators don't matter to a bus. Assumes nothing.
 use Prim.Native.Nat.{ℕ, zero, suc, _+_, _<_}
-use mathlib.Core.Path.{_≡_, refl, sym, ap, _∙_}
+use mathlib.Core.Path.{_≡_, refl, sym, _∙_}
 use mathlib.Core.Bool.{Bool, true, false, cond}
-use mathlib.Core.List.{List, _∷_}
+use mathlib.Core.List.{List}
 use mathlib.Core.Logic.{_⊎_, inl, inr}
 use native.Mathlib.Nat.{le-refl}
 use native.Mathlib.Numerals.{add-one}
@@ -12,8 +12,8 @@ use lib.Dec.{eqb}
 use lib.ListN.{length, getD, set, replicate}
 use lib.Ieee.{Float, nan, binary64, add}
 use Rattle.real.specs.Literals.{nought}
-use Rattle.layout.specs.Table.{stores, table}
-use Rattle.layout.specs.Table.Laws.{table-at, table-set, stores-ext}
+use Rattle.layout.specs.Table.{table}
+use Rattle.layout.specs.Table.Laws.{table-at, table-set, stores-ext, table-same}
 use Rattle.layout.specs.Limits.{sumAt, hasGen, limitsOf}
 
 -- ---- generator by generator
@@ -42,23 +42,13 @@ module _ (buses : List ℕ) (k : ℕ) (below : getD buses k 0 < 32) where
       ∙ rw add-one (stores-ext _ (hasGen (suc k) buses) 32 (replicate 32 false) (λ b h. refl))
 
 -- before the first generator
-none-set : (A : Type 0) (z : A) (k : ℕ) → table k z (λ b. z) ≡ replicate 32 z
-unfolding stores
-none-set A z zero = refl
-none-set A z (suc k) = rw (none-set A z k) (same 32 k)
-  where
-    same : (m i : ℕ) → set (replicate m z) i z ≡ replicate m z
-    same zero i = refl
-    same (suc m) zero = refl
-    same (suc m) (suc i) = ap (λ (l : List A). z ∷ l) (same m i)
-
 pub sums-begin : (buses : List ℕ) (q : List Float) → replicate 32 nought ≡ table 32 nought (sumAt 0 buses q)
 unfolding sumAt
-sums-begin buses q = sym (none-set Float nought 32)
+sums-begin buses q = sym (table-same 32 nought)
 
 pub gens-begin : (buses : List ℕ) → replicate 32 false ≡ table 32 false (hasGen 0 buses)
 unfolding hasGen
-gens-begin buses = sym (none-set Bool false 32)
+gens-begin buses = sym (table-same 32 false)
 
 -- ---- what a bus reads
 

@@ -1,8 +1,8 @@
 -- The laws of `stores` and `table`, over any type of element. Assumes nothing.
 use Prim.Native.Nat.{ℕ, zero, suc, _≤_, _<_}
-use mathlib.Core.Path.{_≡_, refl, sym, _∙_}
+use mathlib.Core.Path.{_≡_, refl, sym, ap, _∙_}
 use mathlib.Core.Bool.{Bool, true, false, cond}
-use mathlib.Core.List.{List}
+use mathlib.Core.List.{List, _∷_}
 use mathlib.Core.Logic.{_⊎_, ⊎-elim}
 use native.Mathlib.Nat.{not-suc-le-zero, le-of-suc-le-suc, eq-or-lt-of-le}
 use native.Mathlib.Omega.{arith}
@@ -68,3 +68,14 @@ module _ {A : Type 0} where
 
   pub table-set : (n : ℕ) (z : A) (f : ℕ → A) (b : ℕ) (v : A) → b < n → n ≤ 32 → set (table n z f) b v ≡ table n z (λ i. cond (eqb i b) v (f i))
   table-set n z f b v p h = stores-set f n (replicate 32 z) b v p (rw length-replicate h)
+
+  same-set : (m i : ℕ) (z : A) → set (replicate m z) i z ≡ replicate m z
+  same-set zero i z = refl
+  same-set (suc m) zero z = refl
+  same-set (suc m) (suc i) z = ap (λ (l : List A). z ∷ l) (same-set m i z)
+
+  -- one value everywhere
+  pub table-same : (k : ℕ) (z : A) → table k z (λ b. z) ≡ replicate 32 z
+  unfolding stores
+  table-same zero z = refl
+  table-same (suc k) z = rw (table-same k z) (same-set 32 k z)
