@@ -1,0 +1,2 @@
+pub mod Injections
+pub mod Jacobian

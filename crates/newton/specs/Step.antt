@@ -1,0 +1,39 @@
+-- 01, "Newton": a trial, and what uses up its try.
+pub mod Laws
+use Prim.Native.Nat.{ℕ, zero, suc, _+_}
+use mathlib.Core.Bool.{Bool, false, _||_, cond}
+use mathlib.Core.List.{List}
+use lib.Dec.{ltb}
+use lib.ListN.{getD}
+use lib.Ieee.{Float, nan, binary64, add, mul, le, isNan}
+use Rattle.real.specs.Literals.{nought}
+use Rattle.layout.specs.declared.AcPfLayout.{AcPfLayout}
+use Rattle.layout.specs.Layout.{none}
+use Rattle.layout.specs.Table.{stores}
+use Rattle.layout.specs.declared.Point.{Point}
+
+-- x + alpha * dx over the columns that a bus has; dx stands in the right sides' places
+unfoldable pub movedBy : Float → ℕ → Float → List Float → Float
+movedBy x c alpha w = cond (ltb c none) (add binary64 x (mul binary64 alpha (getD w (4096 + c) nan))) x
+
+-- the first k buses moved
+abbrev pub stepTo : ℕ → AcPfLayout → Point → List Float → Float → Point
+stepTo k l p w alpha =
+    record {
+      vm = stores (λ b. movedBy (getD (p .vm) b nan) (getD (l .«vm_of») b 0) alpha w) k (p .vm);
+      va = stores (λ b. movedBy (getD (p .va) b nan) (getD (l .«va_of») b 0) alpha w) k (p .va);
+    }
+
+unfoldable pub stepOf : AcPfLayout → Point → List Float → Float → Point
+unfolding movedBy
+stepOf l p w alpha = stepTo (l .n) l p w alpha
+
+-- a magnitude NaN or <= 0, or an angle NaN
+unfoldable pub unfitAt : Float → Float → Bool
+unfitAt m a = isNan m || (le m nought || isNan a)
+
+-- "any", slack buses included
+unfoldable pub unfitTo : ℕ → Point → Bool
+unfolding unfitAt
+unfitTo zero p = false
+unfitTo (suc k) p = unfitTo k p || unfitAt (getD (p .vm) k nan) (getD (p .va) k nan)

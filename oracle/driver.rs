@@ -1,0 +1,195 @@
+
+// ---- the driver: case texts in, the solve program's answers out. The text is read by rules written here from document 01 a second time.
+
+use std::io::{Read, Write};
+
+fn real(field: &[u8]) -> Option<f64> {
+    let (minus, rest) = match field.first() {
+        Some(b'-') => (true, &field[1..]),
+        _ => (false, field),
+    };
+    let (whole, decimals) = match rest.iter().position(|&b| b == b'.') {
+        Some(i) => (&rest[..i], Some(&rest[i + 1..])),
+        None => (rest, None),
+    };
+    let digits = |s: &[u8]| !s.is_empty() && s.iter().all(u8::is_ascii_digit);
+    if !digits(whole) || decimals.is_some_and(|d| !digits(d)) {
+        return None;
+    }
+    let all: Vec<u8> = whole.iter().chain(decimals.unwrap_or(&[])).copied().collect();
+    if all.len() > 15 {
+        return None;
+    }
+    let n = all.iter().fold(0u64, |n, &b| n * 10 + u64::from(b - b'0'));
+    let power: u64 = (0..decimals.map_or(0, <[u8]>::len)).fold(1, |p, _| p * 10);
+    let v = n as f64 / power as f64;
+    Some(if minus { -v } else { v })
+}
+
+fn bus(field: &[u8]) -> Option<usize> {
+    let fits = (1..=3).contains(&field.len()) && field.iter().all(u8::is_ascii_digit) && (field.len() == 1 || field[0] != b'0');
+    fits.then(|| field.iter().fold(0, |n, &b| n * 10 + usize::from(b - b'0')))
+}
+
+enum Field {
+    Kind(bool),
+    Real(f64),
+    Bus(usize),
+}
+
+// What each section's fields are: k a kind, r a real, o a real or ?, b a bus.
+const SECTIONS: [(u8, &[u8], usize); 5] = [(b'B', b"krrrrroo", 32), (b'R', b"br", 32), (b'G', b"brr", 32), (b'L', b"bb", 64), (b'Y', b"bbrr", 256)];
+
+fn field(want: u8, text: &[u8]) -> Option<Field> {
+    match want {
+        b'k' => match text {
+            b"V" => Some(Field::Kind(true)),
+            b"Q" => Some(Field::Kind(false)),
+            _ => None,
+        },
+        b'b' => bus(text).map(Field::Bus),
+        b'o' if text == b"?" => Some(Field::Real(f64::NAN)),
+        _ => real(text).map(Field::Real),
+    }
+}
+
+fn read(text: &[u8]) -> Result<(AcNetwork, AcStart), (u8, usize)> {
+    if text.len() < 38 {
+        return Err((1, text.len()));
+    }
+    if text.len() > 32768 {
+        return Err((1, 32768));
+    }
+    let t = text.len() - 38;
+    let trailer = &text[t..];
+    let mut starts = Vec::new();
+    for i in 0..6 {
+        let part = &trailer[1 + 6 * i..7 + 6 * i];
+        if part[0] != b' ' || !part[1..].iter().all(u8::is_ascii_digit) {
+            return Err((2, t));
+        }
+        starts.push(part[1..].iter().fold(0usize, |n, &b| n * 10 + usize::from(b - b'0')));
+    }
+    let start = match trailer[0] {
+        b'F' => AcStart::Flat,
+        b'C' => AcStart::Case,
+        _ => return Err((2, t)),
+    };
+    if trailer[37] != b'\n' || starts[0] != 0 || starts[5] != t || starts.windows(2).any(|w| w[1] < w[0]) {
+        return Err((2, t));
+    }
+    if let Some(i) = text[..t].iter().position(|b| !b"\n -.0123456789?BRGLYVQ".contains(b)) {
+        return Err((3, i));
+    }
+    let mut rows: Vec<Vec<Vec<Field>>> = Vec::new();
+    for (s, &(letter, wants, most)) in SECTIONS.iter().enumerate() {
+        let mut here = Vec::new();
+        let mut at = starts[s];
+        while at < starts[s + 1] {
+            if here.len() == most {
+                return Err((6, at));
+            }
+            let Some(end) = text[at..starts[s + 1]].iter().position(|&b| b == b'\n').map(|i| at + i) else {
+                return Err((4, at));
+            };
+            let parts: Vec<&[u8]> = text[at..end].split(|&b| b == b' ').collect();
+            if parts[0] != [letter] || parts.len() != wants.len() + 1 || parts.iter().any(|p| p.is_empty()) {
+                return Err((4, at));
+            }
+            let mut fields = Vec::new();
+            let mut place = at + 2;
+            for (part, &want) in parts[1..].iter().zip(wants) {
+                fields.push(field(want, part).ok_or((5, place))?);
+                place += part.len() + 1;
+            }
+            here.push(fields);
+            at = end + 1;
+        }
+        rows.push(here);
+    }
+    let r = |f: &Field| if let Field::Real(x) = f { *x } else { unreachable!() };
+    let b = |f: &Field| if let Field::Bus(x) = f { *x } else { unreachable!() };
+    let mut net = AcNetwork { n: rows[0].len(), k: rows[2].len(), ..AcNetwork::default() };
+    for f in &rows[0] {
+        net.pf_pv.push(matches!(f[0], Field::Kind(true)));
+        net.vm_set.push(r(&f[1]));
+        net.pd.push(r(&f[2]));
+        net.qd.push(r(&f[3]));
+        net.pg.push(r(&f[4]));
+        net.qg.push(r(&f[5]));
+        net.vm_case.push(r(&f[6]));
+        net.va_case.push(r(&f[7]));
+    }
+    for f in &rows[1] {
+        net.slacks.push(b(&f[0]));
+        net.va_slacks.push(r(&f[1]));
+    }
+    for f in &rows[2] {
+        net.gen_bus.push(b(&f[0]));
+        net.qmin.push(r(&f[1]));
+        net.qmax.push(r(&f[2]));
+    }
+    for f in &rows[3] {
+        net.br_from.push(b(&f[0]));
+        net.br_to.push(b(&f[1]));
+    }
+    for f in &rows[4] {
+        net.triplets.push((b(&f[0]), b(&f[1]), Complex::new(r(&f[2]), r(&f[3]))));
+    }
+    Ok((net, start))
+}
+
+fn printed(x: f64) -> String {
+    if x.is_nan() { "nan".to_owned() } else { format!("{:016x}", x.to_bits()) }
+}
+
+pub fn answer(text: &[u8]) -> String {
+    let (net, start) = match read(text) {
+        Err((number, place)) => return format!("refused {number} {place}\n"),
+        Ok(read) => read,
+    };
+    let ends = net.br_from.iter().chain(&net.br_to);
+    let named = net.slacks.iter().chain(&net.gen_bus).chain(ends);
+    if named.chain(net.triplets.iter().flat_map(|(i, k, _)| [i, k])).any(|&b| b >= net.n) {
+        return "refused 8\n".to_owned();
+    }
+    match ac_pf_with_start(&AcPolar, &net, start) {
+        Err((mismatch, starts)) => format!("refused 10 {} {starts}\n", printed(mismatch)),
+        Ok(s) => {
+            let mut out = format!("ok {} {}\n", s.iterations, printed(s.residual));
+            for b in 0..net.n {
+                let kind = match s.kinds[b] {
+                    BusKind::Slack => 'S',
+                    BusKind::Pv => 'V',
+                    BusKind::Pq => 'Q',
+                };
+                out += &format!("{b} {kind} {} {} {} {}\n", printed(s.vm[b]), printed(s.va[b]), printed(s.p[b]), printed(s.q[b]));
+            }
+            out
+        }
+    }
+}
+
+// Texts come as a batch: each its length in four big-endian bytes, then its bytes. With the argument `met`, a line of what each run met follows
+// its answer on standard error.
+fn main() {
+    let mut input = Vec::new();
+    std::io::stdin().read_to_end(&mut input).unwrap();
+    let counting = std::env::args().nth(1).is_some_and(|a| a == "met");
+    let (mut at, mut out, mut notes) = (0, Vec::new(), String::new());
+    while at + 4 <= input.len() {
+        let n = u32::from_be_bytes(input[at..at + 4].try_into().unwrap()) as usize;
+        let text = &input[at + 4..at + 4 + n];
+        MET.with(|c| c.set(Met::default()));
+        let a = answer(text);
+        if counting {
+            let m = MET.with(Cell::get);
+            notes += &format!("{} {} {} {} {} {} {} {} {} {} {} {}\n", m.starts, m.rounds, m.steps, m.halved, m.unfit, m.singular, m.stuck, m.at_max, m.at_min, m.back, m.unsettled, m.nan);
+        }
+        out.extend_from_slice(&(a.len() as u32).to_be_bytes());
+        out.extend_from_slice(a.as_bytes());
+        at += 4 + n;
+    }
+    std::io::stdout().write_all(&out).unwrap();
+    eprint!("{notes}");
+}

@@ -1,0 +1,65 @@
+#!/usr/bin/env python3
+"""Makes the altered Rust from the repository's text, and builds it with the Rust compiler alone.
+
+Usage: python3 oracle/make_oracle.py PATH_TO_SRC [OUT]     PATH_TO_SRC holds crates/tellegen/src/.. of eigenergy/tellegen; OUT is target/oracle
+Writes OUT/altered.rs (find and dense_islands of islands.rs, all of pf_ac.rs, changed only as listed in CHANGES) and builds OUT/oracle and
+OUT/oracle_platform (the same with the platform's sine and cosine). None of the repository's text is kept here.
+"""
+import os
+import re
+import subprocess
+import sys
+
+HERE = os.path.dirname(os.path.abspath(__file__))
+
+# (what, old, new): each old text stands exactly once. Changes that document 01 makes:
+CHANGES = [
+    ("num_complex gives way to a stand-in", "use num_complex::Complex;\n", ""),
+    ("the formulation, islands, network and solve_sparse stand in this file",
+     "use crate::formulation::{AcPolar, Formulation};\nuse crate::model::islands::dense_islands;\nuse crate::model::AcNetwork;\nuse crate::solve::solve_sparse;\n", ""),
+    ("a refusal gives the mismatch and the starts as numbers, not as text", "    start: AcStart,\n) -> Result<AcPfSolution, String> {", "    start: AcStart,\n) -> Result<AcPfSolution, (f64, usize)> {"),
+    ("the same", "        return Err(format!(\n            \"AC power flow did not converge: best mismatch {residual:.3e} over {start_count} starts\"\n        ));", "        return Err((residual, start_count));"),
+    # observation only: counters that the solver never reads
+    ("counts starts", "    for (vm0, va0) in starts {\n", "    for (vm0, va0) in starts {\n        met(|m| m.starts += 1);\n"),
+    ("counts rounds", "    for _ in 0..MAX_OUTER {\n", "    for _ in 0..MAX_OUTER {\n        met(|m| m.rounds += 1);\n"),
+    ("counts singular matrices", "            break; // singular Jacobian: stop at the best iterate so far", "            met(|m| m.singular += 1);\n            break; // singular Jacobian: stop at the best iterate so far"),
+    ("counts unfit trials", "any(|&x| x.is_nan()) {\n                alpha *= 0.5;\n                continue;", "any(|&x| x.is_nan()) {\n                met(|m| m.unfit += 1);\n                alpha *= 0.5;\n                continue;"),
+    ("counts steps and shortened ones", "                accepted = true;\n", "                accepted = true;\n                met(|m| { m.steps += 1; if alpha < 1.0 { m.halved += 1; } });\n"),
+    ("counts steps that no length helped", "            break; // no descent direction reduced the mismatch: stop", "            met(|m| m.stuck += 1);\n            break; // no descent direction reduced the mismatch: stop"),
+    ("counts releases at qmax", "                    converted[b] = 1;\n", "                    converted[b] = 1;\n                    met(|m| m.at_max += 1);\n"),
+    ("counts releases at qmin", "                    converted[b] = -1;\n", "                    converted[b] = -1;\n                    met(|m| m.at_min += 1);\n"),
+    ("counts returns", "                    reverted[b] = true;\n", "                    reverted[b] = true;\n                    met(|m| m.back += 1);\n"),
+    ("counts typings that never settled", "    if !settled {\n", "    if !settled {\n        met(|m| m.unsettled += 1);\n"),
+    ("counts NaN residuals", "        result = (vm.clone(), va.clone(), kinds.clone(), iters, residual);\n", "        result = (vm.clone(), va.clone(), kinds.clone(), iters, residual);\n        if residual.is_nan() {\n            met(|m| m.nan += 1);\n        }\n"),
+]
+
+
+def take(text, start, end):
+    i = text.index(start)
+    return text[i:text.index(end, i) + len(end)]
+
+
+def main():
+    if len(sys.argv) < 2:
+        sys.exit(__doc__)
+    src = os.path.join(sys.argv[1], "crates", "tellegen", "src")
+    out = sys.argv[2] if len(sys.argv) > 2 else os.path.join(HERE, "..", "target", "oracle")
+    os.makedirs(out, exist_ok=True)
+    islands = open(os.path.join(src, "model", "islands.rs")).read()
+    pf_ac = open(os.path.join(src, "problem", "pf_ac.rs")).read()
+    for what, old, new in CHANGES:
+        if pf_ac.count(old) != 1:
+            sys.exit(f"{pf_ac.count(old)} places for: {what}")
+        pf_ac = pf_ac.replace(old, new)
+    pf_ac = re.sub(r"^//!.*\n", "", pf_ac, flags=re.M)
+    find = take(islands, "fn find(parent", "\n}\n")
+    dense = take(islands, "pub(crate) fn dense_islands", "\n}\n")
+    text = "#![allow(dead_code, unused_imports, unexpected_cfgs)]\n" + open(os.path.join(HERE, "standins.rs")).read() + find + dense + pf_ac + open(os.path.join(HERE, "driver.rs")).read()
+    with open(os.path.join(out, "altered.rs"), "w") as f:
+        f.write(text)
+    for name, flags in (("oracle", []), ("oracle_platform", ["--cfg", "platform_sine"])):
+        subprocess.run(["rustc", "--edition", "2021", "-O", "-C", "llvm-args=-fp-contract=off", *flags, "-o", os.path.join(out, name), os.path.join(out, "altered.rs")], check=True)
+    print(f"{len(CHANGES)} changes; built {out}/oracle and {out}/oracle_platform")
+
+
+main()
