@@ -59,7 +59,6 @@ sidesTo (suc k) r w = set (sidesTo k r w) (4096 + k) (getD r k nan)
 
 -- the Jacobian's entries added to a zero matrix, and the linear solve
 unfoldable pub directionOf : Ybus → AcPfLayout → List Float → Measured → List Float → Outcome
-unfolding sidesTo
 directionOf y l va m w = solution (l .dim) (sidesTo (l .dim) (m .r) (jacobianOf (l .n) y va (m .phasors) l (cleared (l .dim) w)))
 
 -- ---- the length. `at` measures a point
@@ -72,7 +71,6 @@ takenTrial p m = record { taken = true; point = p; at = m }
 
 -- one length: taken only if the trial is fit and its norm strictly lower
 unfoldable pub attemptOf : (Point → Measured) → AcPfLayout → Point → Measured → List Float → Float → Trial
-unfolding stepOf unfitTo
 attemptOf at l p m w alpha =
     let t = stepOf l p w alpha in
     let tm = at t in
@@ -80,7 +78,6 @@ attemptOf at l p m w alpha =
 
 -- the first of the next k lengths that is taken
 unfoldable pub triesFrom : ℕ → (Point → Measured) → AcPfLayout → Point → Measured → List Float → Float → Trial
-unfolding attemptOf
 triesFrom zero at l p m w alpha = keptTrial p m
 triesFrom (suc k) at l p m w alpha =
     let a = attemptOf at l p m w alpha in
@@ -112,7 +109,6 @@ bySolution (Solution.Singular c) f r = f c
 
 -- the next k steps, of which `it` are done
 unfoldable pub stepsFrom : ℕ → ℕ → (Point → Measured) → Ybus → AcPfLayout → Point → Measured → List Float → Run
-unfolding directionOf triesFrom
 stepsFrom zero it at y l p m w = run (ended p 49 (m .residual) (lastEnding (m .residual))) w
 stepsFrom (suc k) it at y l p m w =
     let o = directionOf y l (p .va) m w in
@@ -123,5 +119,4 @@ stepsFrom (suc k) it at y l p m w =
     (cond (t .taken) rest (run (ended p it (m .residual) Stuck) (spaceOf o))))
 
 unfoldable pub newtonOf : Problem → Point → List Float → Run
-unfolding measuredOf stepsFrom
 newtonOf g p w = stepsFrom 50 0 (measuredOf g) (g .y) (g .layout) p (measuredOf g p) w

@@ -25,7 +25,6 @@ stepTo k l p w alpha =
     }
 
 unfoldable pub stepOf : AcPfLayout → Point → List Float → Float → Point
-unfolding movedBy
 stepOf l p w alpha = stepTo (l .n) l p w alpha
 
 -- a magnitude NaN or <= 0, or an angle NaN
@@ -34,6 +33,5 @@ unfitAt m a = isNan m || (le m nought || isNan a)
 
 -- "any", slack buses included
 unfoldable pub unfitTo : ℕ → Point → Bool
-unfolding unfitAt
 unfitTo zero p = false
 unfitTo (suc k) p = unfitTo k p || unfitAt (getD (p .vm) k nan) (getD (p .va) k nan)

@@ -39,10 +39,10 @@ array-write-slack : tie.Need-array-write-slack Inv-loop μ-loop
 array-write-slack c = omega (arith, label (c .before))
 
 mul-va-2 : tie.Need-mul-va-2 Inv-loop μ-loop
-mul-va-2 c = omega (arith, label (c .before .before))
+mul-va-2 c = omega (arith, bus (c .before .before), label (c .before .before))
 
 array-write-va : tie.Need-array-write-va Inv-loop μ-loop
-array-write-va c = omega (arith, label (c .before .before))
+array-write-va c = omega (arith, bus (c .before .before), label (c .before .before))
 
 loop-again : tie.Need-loop-again Inv-loop μ-loop
 loop-again c = let i = c .before .before in let l = i .before .loop in let a = i .before .before .args in (omega arith, l .inv .1, rw (l .inv .2) (slacks-more (a .slacks .now) (a .t3) (l .i) (label i)), rw (l .inv .3) (angles-more (a .slacks .now) (a .t3) (l .i) (label i) (a .va-slacks .now)))
