@@ -1,0 +1,370 @@
+// Works out the injections and the Jacobian at the points of its input and compares them, and every place of the workspace, with what the input
+// says (oracle/injection_vectors.py has the format).
+ghost use mathlib.Core.Path.{_≡_};
+ghost use Prim.Native.Nat.{_+_, _*_, _≤_, _<_};
+ghost use lib.ListN.{length};
+ghost use Rattle.layout.specs.Table.{Below};
+ghost use Rattle.injections.specs.Injections.{ybus, Good};
+ghost use Rattle.vectors.specs.Words.{wordOf, Tells};
+ghost use Rattle.injection_vectors.specs.Told.{wordsTold, doublesTold, tableTold, columnsTold, columnTold, layoutTold, injectionsTold, ybusTold, placeTold, Holds, Fits, injectionsAt, jacobianAt, Entries, Agrees, Found};
+use injections::Column;
+use injections::Injections;
+use layout::AcPfLayout;
+use libc::STDIN_FILENO;
+use libc::STDOUT_FILENO;
+
+// ---- what is told
+
+fn doubles_into(out: &mut [f64], s: &[u8], from: usize)
+    requires { ⌜ from + length (now out) * 8 ≤ length (now s) ⌝ }
+    ensures { λ _. ⌜ now (out .exit) ≡ doublesTold (now (s .entry)) from (length (now (out .entry))) ⌝ }
+{
+    for k in 0..out.len() {
+        out[k] = vectors::double_at(s, from + k * 8);
+    }
+}
+
+fn numbers_into(out: &mut [usize], s: &[u8], from: usize)
+    requires { ⌜ from + length (now out) * 8 ≤ length (now s) ⌝ }
+    ensures { λ _. ⌜ now (out .exit) ≡ wordsTold (now (s .entry)) from (length (now (out .entry))) ⌝ }
+{
+    for k in 0..out.len() {
+        out[k] = vectors::word(s, from + k * 8) as usize;
+    }
+}
+
+fn doubles(s: &[u8], from: usize, n: usize) -> [f64; 32]
+    requires { ⌜ (n ≤ 32) × (from + n * 8 ≤ length (now s)) ⌝ }
+    ensures { λ r. ⌜ r ≡ tableTold (now (s .entry)) from n ⌝ }
+{
+    let mut out = [0.0; 32];
+    for b in 0..n {
+        out[b] = vectors::double_at(s, from + b * 8);
+    }
+    out
+}
+
+fn columns(s: &[u8], from: usize, n: usize) -> [usize; 32]
+    requires { ⌜ (n ≤ 32) × (from + n * 8 ≤ length (now s)) ⌝ }
+    ensures { λ r. ⌜ r ≡ columnsTold (now (s .entry)) from n ⌝ }
+{
+    let mut out = [layout::NONE; 32];
+    for b in 0..n {
+        out[b] = vectors::word(s, from + b * 8) as usize;
+    }
+    out
+}
+
+fn layout_at(s: &[u8], from: usize, n: usize, dim: usize) -> AcPfLayout
+    requires { ⌜ (n ≤ 32) × (from + n * 32 ≤ length (now s)) ⌝ }
+    ensures { λ r. ⌜ r ≡ layoutTold (now (s .entry)) from n dim ⌝ }
+{
+    let va_of = columns(s, from, n);
+    let vm_of = columns(s, from + n * 8, n);
+    let p_of = columns(s, from + n * 16, n);
+    let q_of = columns(s, from + n * 24, n);
+    AcPfLayout {
+        n,
+        va_of,
+        vm_of,
+        p_of,
+        q_of,
+        dim,
+    }
+}
+
+// ---- comparing
+
+fn below(xs: &[usize], n: usize) -> bool
+    ensures { λ r. ⌜ Tells r (Below n (now (xs .entry))) ⌝ }
+{
+    for k in 0..xs.len() {
+        if xs[k] >= n {
+            return false;
+        }
+    }
+    true
+}
+
+fn equal(xs: [f64; 32], ys: [f64; 32]) -> bool
+    ensures { λ r. ⌜ Tells r (xs ≡ ys) ⌝ }
+{
+    for b in 0..32usize {
+        if !vectors::same(xs[b], ys[b]) {
+            return false;
+        }
+    }
+    true
+}
+
+fn column_told(c: Column, s: &[u8], from: usize, n: usize) -> bool
+    requires { ⌜ (n ≤ 32) × (from + n * 16 ≤ length (now s)) ⌝ }
+    ensures { λ r. ⌜ Tells r (c ≡ columnTold (now (s .entry)) from n) ⌝ }
+{
+    let re = c.re;
+    let im = c.im;
+    if !equal(re, doubles(s, from, n)) {
+        return false;
+    }
+    equal(im, doubles(s, from + n * 8, n))
+}
+
+fn injections_told(x: Injections, s: &[u8], from: usize, n: usize) -> bool
+    requires { ⌜ (n ≤ 32) × (from + n * 48 ≤ length (now s)) ⌝ }
+    ensures { λ r. ⌜ Tells r (x ≡ injectionsTold (now (s .entry)) from n) ⌝ }
+{
+    let phasors = x.phasors;
+    let power = x.power;
+    let p = power.p;
+    let q = power.q;
+    if !column_told(phasors.v, s, from, n) {
+        return false;
+    }
+    if !column_told(phasors.i, s, from + n * 16, n) {
+        return false;
+    }
+    if !equal(p, doubles(s, from + n * 32, n)) {
+        return false;
+    }
+    equal(q, doubles(s, from + n * 40, n))
+}
+
+// The place i of the workspace: the block of dim rows and columns is told, row by row; every other is 0.0.
+fn place(s: &[u8], from: usize, dim: usize, i: usize) -> f64
+    requires { ⌜ (dim ≤ 64) × (from + dim * dim * 8 ≤ length (now s)) ⌝ }
+    ensures { λ r. ⌜ r ≡ placeTold (now (s .entry)) from dim i ⌝ }
+{
+    let row = i / 64;
+    let col = i % 64;
+    if dim <= row {
+        return 0.0;
+    }
+    if dim <= col {
+        return 0.0;
+    }
+    let k = row * dim + col;
+    vectors::double_at(s, from + k * 8)
+}
+
+fn space_told(w: &[f64], s: &[u8], from: usize, dim: usize) -> bool
+    requires { ⌜ (length (now w) ≡ 4224) × (dim ≤ 64) × (from + dim * dim * 8 ≤ length (now s)) ⌝ }
+    ensures { λ r. ⌜ Tells r (Holds (now (w .entry)) (now (s .entry)) from dim) ⌝ }
+{
+    for i in 0..4224usize {
+        if !vectors::same(w[i], place(s, from, dim, i)) {
+            return false;
+        }
+    }
+    true
+}
+
+// ---- a point
+
+fn injections_agree(
+    s: &[u8],
+    n: usize,
+    m: usize,
+    dim: usize,
+    row: &[usize],
+    col: &[usize],
+    re: &[f64],
+    im: &[f64],
+) -> bool
+    requires { ⌜ Fits (now s) n m dim × (ybus (now row) (now col) (now re) (now im) ≡ ybusTold (now s) m) × Good n (ybusTold (now s) m) ⌝ }
+    ensures { λ r. ⌜ Tells r (injectionsAt (now (s .entry)) n m ≡ injectionsTold (now (s .entry)) (m * 32 + n * 48) n) ⌝ }
+{
+    let vm = doubles(s, m * 32, n);
+    let va = doubles(s, m * 32 + n * 8, n);
+    let found = injections::ac_injections(n, row, col, re, im, vm, va);
+    injections_told(found, s, m * 32 + n * 48, n)
+}
+
+fn jacobian_at(
+    w: &mut [f64],
+    s: &[u8],
+    n: usize,
+    m: usize,
+    dim: usize,
+    row: &[usize],
+    col: &[usize],
+    re: &[f64],
+    im: &[f64],
+)
+    requires { ⌜ (4160 ≤ length (now w)) × Fits (now s) n m dim × (ybus (now row) (now col) (now re) (now im) ≡ ybusTold (now s) m) × Good n (ybusTold (now s) m) ⌝ }
+    ensures { λ _. ⌜ now (w .exit) ≡ jacobianAt (now (s .entry)) n m dim (now (w .entry)) ⌝ }
+{
+    let vm = doubles(s, m * 32, n);
+    let va = doubles(s, m * 32 + n * 8, n);
+    let layout = layout_at(s, m * 32 + n * 16, n, dim);
+    let phasors = injections::bus_phasors(n, row, col, re, im, vm, va);
+    injections::ac_jacobian(n, row, col, re, im, va, phasors, layout, w);
+}
+
+fn jacobian_agrees(
+    s: &[u8],
+    n: usize,
+    m: usize,
+    dim: usize,
+    row: &[usize],
+    col: &[usize],
+    re: &[f64],
+    im: &[f64],
+) -> bool
+    requires { ⌜ Fits (now s) n m dim × (ybus (now row) (now col) (now re) (now im) ≡ ybusTold (now s) m) × Good n (ybusTold (now s) m) ⌝ }
+    ensures { λ r. ⌜ Tells r (Entries (now (s .entry)) n m dim) ⌝ }
+{
+    let mut space = [0.0; 4224];
+    let w: &mut [f64] = &mut space;
+    jacobian_at(w, s, n, m, dim, row, col, re, im);
+    space_told(w, s, m * 32 + n * 96, dim)
+}
+
+fn agrees(
+    s: &[u8],
+    n: usize,
+    m: usize,
+    dim: usize,
+    row: &[usize],
+    col: &[usize],
+    re: &[f64],
+    im: &[f64],
+) -> bool
+    requires { ⌜ Fits (now s) n m dim × (ybus (now row) (now col) (now re) (now im) ≡ ybusTold (now s) m) ⌝ }
+    ensures { λ r. ⌜ Tells r (Agrees (now (s .entry)) n m dim) ⌝ }
+{
+    if !below(row, n) {
+        return false;
+    }
+    if !below(col, n) {
+        return false;
+    }
+    if !injections_agree(s, n, m, dim, row, col, re, im) {
+        return false;
+    }
+    jacobian_agrees(s, n, m, dim, row, col, re, im)
+}
+
+fn told_agrees(
+    s: &[u8],
+    n: usize,
+    m: usize,
+    dim: usize,
+    row: &mut [usize],
+    col: &mut [usize],
+    re: &mut [f64],
+    im: &mut [f64],
+) -> bool
+    requires { ⌜ Fits (now s) n m dim × (length (now row) ≡ m) × (length (now col) ≡ m) × (length (now re) ≡ m) × (length (now im) ≡ m) ⌝ }
+    ensures { λ r. ⌜ Tells r (Agrees (now (s .entry)) n m dim) ⌝ }
+{
+    numbers_into(row, s, 0);
+    numbers_into(col, s, m * 8);
+    doubles_into(re, s, m * 16);
+    doubles_into(im, s, m * 24);
+    agrees(s, n, m, dim, row, col, re, im)
+}
+
+// Room for a column of triplets.
+fn numbers() -> [usize; 256]
+    ensures { λ r. ⌜ 256 ≡ length r ⌝ }
+{
+    [0; 256]
+}
+
+fn parts() -> [f64; 256]
+    ensures { λ r. ⌜ 256 ≡ length r ⌝ }
+{
+    [0.0; 256]
+}
+
+fn point(s: &[u8], n: usize, m: usize, dim: usize) -> bool
+    requires { ⌜ Fits (now s) n m dim ⌝ }
+    ensures { λ r. ⌜ Tells r (Agrees (now (s .entry)) n m dim) ⌝ }
+{
+    let mut rows = numbers();
+    let mut cols = numbers();
+    let mut res = parts();
+    let mut ims = parts();
+    let row: &mut [usize] = &mut rows;
+    let col: &mut [usize] = &mut cols;
+    let re: &mut [f64] = &mut res;
+    let im: &mut [f64] = &mut ims;
+    told_agrees(
+        s,
+        n,
+        m,
+        dim,
+        &mut row[..m],
+        &mut col[..m],
+        &mut re[..m],
+        &mut im[..m],
+    )
+}
+
+// Whether the input had n bytes more, which are then the first of s.
+fn read(s: &mut [u8], n: usize) -> bool
+    requires { ⌜ n ≤ length (now s) ⌝ }
+    ensures { λ _. ⌜ length (now (s .exit)) ≡ length (now (s .entry)) ⌝ }
+{
+    io::read_full(STDIN_FILENO, &mut s[..n]) == n
+}
+
+// One point: 0 where all agree, 1 where something differs, 2 where the input has no whole point left.
+fn next(head: &mut [u8], body: &mut [u8]) -> u64
+    requires { ⌜ (length (now head) ≡ 24) × (length (now body) ≡ 44032) ⌝ }
+    ensures { λ r. ⌜ Found r (Agrees (now (body .exit)) (wordOf 0 (now (head .exit))) (wordOf 8 (now (head .exit))) (wordOf 16 (now (head .exit)))) ⌝ }
+{
+    if !read(head, 24) {
+        return 2;
+    }
+    let n = vectors::word(head, 0) as usize;
+    let m = vectors::word(head, 8) as usize;
+    let dim = vectors::word(head, 16) as usize;
+    if n > 32 {
+        return 2;
+    }
+    if m > 256 {
+        return 2;
+    }
+    if dim > 64 {
+        return 2;
+    }
+    if !read(body, m * 32 + n * 96 + dim * dim * 8) {
+        return 2;
+    }
+    if point(body, n, m, dim) {
+        return 0;
+    }
+    1
+}
+
+// Room for the largest point.
+fn room() -> [u8; 44032]
+    ensures { λ r. ⌜ 44032 ≡ length r ⌝ }
+{
+    [0; 44032]
+}
+
+fn main() {
+    let mut front = [0u8; 24];
+    let mut back = room();
+    let head: &mut [u8] = &mut front;
+    let body: &mut [u8] = &mut back;
+    read(head, 8);
+    let count = vectors::word(head, 0);
+    let mut done = 0;
+    let mut differing = 0;
+    while done < count {
+        let found = next(head, body);
+        if found == 2 {
+            break;
+        }
+        differing += found;
+        done += 1;
+    }
+    io::write_all(STDOUT_FILENO, b"points ");
+    io::print_decimal(STDOUT_FILENO, done);
+    io::write_all(STDOUT_FILENO, b", differing ");
+    io::print_decimal(STDOUT_FILENO, differing);
+    io::write_all(STDOUT_FILENO, b"\n");
+}

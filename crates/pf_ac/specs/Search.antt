@@ -1,0 +1,70 @@
+-- 01, "Starts": case first if chosen, then flat, then four perturbed. Kept: the first, then any non-NaN result that is smaller or follows a NaN. The first
+-- below 1e-8 ends the search.
+pub mod Laws
+use Prim.Native.Nat.{ℕ, zero, suc, _+_}
+use mathlib.Core.Bool.{Bool, true, false, cond}
+use mathlib.Core.List.{List}
+use lib.Dec.{eqb}
+use lib.ListN.{replicate}
+use lib.Ieee.{Float, lt, isNan}
+use Rattle.real.specs.Literals.{nought, tolerance}
+use Rattle.layout.specs.declared.BusKind.{BusKind}
+use Rattle.layout.specs.declared.Point.{Point}
+use Rattle.starts.specs.declared.References.{References}
+use Rattle.starts.specs.Starts.{caseOf, fromFlat}
+use Rattle.qlim.specs.declared.Settled.{Settled}
+use Rattle.qlim.specs.Rounds.{Study, Done, settledOf, spaceDone, qlimOf}
+use Rattle.pf_ac.specs.declared.AcStart.{AcStart}
+use Rattle.pf_ac.specs.declared.AcStart.the-variants.{Flat, Case}
+use Rattle.pf_ac.specs.declared.AcPf.{AcPf}
+use Rattle.pf_ac.specs.declared.AcPf.the-variants.{Solved, NotConverged}
+
+-- the first start: the stored state if chosen, else the flat one
+abbrev pub firstOf : AcStart → ℕ → List Float → List Float → List Float → References → Point → Point
+firstOf Flat n set vm va r flat = flat
+firstOf Case n set vm va r flat = caseOf n set vm va r
+
+-- start i: after the first, those from the flat one on
+abbrev pub laterOf : AcStart → ℕ → List BusKind → Point → ℕ → Point
+laterOf Flat n kinds flat i = fromFlat n kinds flat (suc i)
+laterOf Case n kinds flat i = fromFlat n kinds flat i
+
+unfoldable pub startOf : AcStart → ℕ → List BusKind → Point → Point → ℕ → Point
+startOf start n kinds first flat zero = first
+startOf start n kinds first flat (suc i) = laterOf start n kinds flat i
+
+-- 5 flat, 6 case
+abbrev pub countOf : AcStart → ℕ
+countOf Flat = 5
+countOf Case = 6
+
+-- whether a result replaces the one kept
+unfoldable pub betterOf : Bool → Float → Float → Bool
+betterOf first best res = cond first true (cond (isNan res) false (cond (isNan best) true (lt res best)))
+
+-- the outcome, the result kept, and the workspace
+pub data Searched : Type 0 where
+  searched : AcPf → Settled → List Float → Searched
+
+abbrev pub solved : Settled → AcPf
+solved s = Solved (s .iterations) (s .residual)
+
+-- what a start's result d makes of the best so far: the end, or `rest` goes on with the one kept
+unfoldable pub tryOf : Bool → Settled → Done → (Settled → List Float → Searched) → Searched
+tryOf first best d rest =
+    let s = settledOf d in
+    let kept = cond (betterOf first (best .residual) (s .residual)) s best in
+    cond (lt (kept .residual) tolerance) (searched (solved kept) kept (spaceDone d)) (rest kept (spaceDone d))
+
+-- the next m starts, of which i are tried
+unfoldable pub searchFrom : ℕ → ℕ → AcStart → Study → List BusKind → Point → Point → Settled → List Float → Searched
+searchFrom zero i start s kinds first flat best w = searched (NotConverged (best .residual) (countOf start)) best w
+searchFrom (suc m) i start s kinds first flat best w =
+    tryOf (eqb i 0) best (qlimOf s kinds (startOf start (s .n) kinds first flat i) w) (searchFrom m (i + 1) start s kinds first flat)
+
+-- before the first start nothing is kept
+abbrev pub nothing : Point → Settled
+nothing p = record { point = p; letters = replicate 32 0; iterations = 0; residual = nought }
+
+unfoldable pub searchOf : AcStart → Study → List BusKind → Point → Point → List Float → Searched
+searchOf start s kinds first flat w = searchFrom (countOf start) 0 start s kinds first flat (nothing first) w

@@ -1,0 +1,61 @@
+-- One start of the search as an equation, for each way that it goes. Assumes nothing.
+use Prim.Native.Nat.{ℕ, zero, suc, _+_, _-_}
+use mathlib.Core.Bool.{Bool, true, false, cond}
+use mathlib.Core.List.{List}
+use mathlib.Core.Path.{_≡_, refl, sym, ap, _∙_}
+use native.Mathlib.Omega.{arith}
+use lib.Dec.{eqb}
+use lib.Ieee.{Float, lt}
+use Rattle.real.specs.Literals.{tolerance}
+use Rattle.layout.specs.declared.BusKind.{BusKind}
+use Rattle.layout.specs.declared.Point.{Point}
+use Rattle.starts.specs.Starts.{fromFlat}
+use Rattle.qlim.specs.declared.Settled.{Settled}
+use Rattle.qlim.specs.Rounds.{Study, Done, done, qlimOf}
+use Rattle.pf_ac.specs.declared.AcStart.{AcStart}
+use Rattle.pf_ac.specs.declared.AcStart.the-variants.{Flat, Case}
+use Rattle.pf_ac.specs.declared.AcPf.the-variants.{NotConverged}
+use Rattle.pf_ac.specs.Search.{startOf, countOf, betterOf, Searched, searched, solved, tryOf, searchFrom, nothing, searchOf}
+
+pub first-start : (start : AcStart) (n : ℕ) (kinds : List BusKind) (first flat : Point) (i : ℕ) → i ≡ 0 → first ≡ startOf start n kinds first flat i
+unfolding startOf
+first-start start n kinds first flat i e = rw e
+
+pub later-flat : (start : AcStart) (n : ℕ) (kinds : List BusKind) (first flat : Point) (i : ℕ) → start ≡ Flat → (i ≡ 0 → ⊥) → fromFlat n kinds flat i ≡ startOf start n kinds first flat i
+unfolding startOf
+later-flat start n kinds first flat zero e h = absurd (h refl)
+later-flat start n kinds first flat (suc i) e h = rw e
+
+pub later-case : (start : AcStart) (n : ℕ) (kinds : List BusKind) (first flat : Point) (i : ℕ) → start ≡ Case → (i ≡ 0 → ⊥) → fromFlat n kinds flat (i - 1) ≡ startOf start n kinds first flat i
+unfolding startOf
+later-case start n kinds first flat zero e h = absurd (h refl)
+later-case start n kinds first flat (suc i) e h = let q : suc i - 1 ≡ i = omega arith in rw (e, q)
+
+module _ (start : AcStart) (s : Study) (kinds : List BusKind) (first flat : Point) where
+  pub search-none : (i c : ℕ) → c ≡ countOf start → (best : Settled) (w : List Float) → searched (NotConverged (best .residual) c) best w ≡ searchFrom 0 i start s kinds first flat best w
+  unfolding searchFrom
+  search-none i c e best w = rw e
+
+  module _ (m i : ℕ) (best : Settled) (w : List Float) (p : Point) (ep : p ≡ startOf start (s .n) kinds first flat i) (r : Settled) (v : List Float) (er : done r v ≡ qlimOf s kinds p w)
+      (yes : Bool) (ey : yes ≡ betterOf (eqb i 0) (best .residual) (r .residual)) (kept : Settled) (ek : kept ≡ cond yes r best) where
+    turn : searchFrom (suc m) i start s kinds first flat best w ≡ tryOf (eqb i 0) best (done r v) (searchFrom m (i + 1) start s kinds first flat)
+    unfolding searchFrom
+    turn = ap (λ (d : Done). tryOf (eqb i 0) best d (searchFrom m (i + 1) start s kinds first flat)) (sym (er ∙ ap (λ (x : Point). qlimOf s kinds x w) ep))
+
+    pub search-ends : lt (kept .residual) tolerance ≡ true → searchFrom (suc m) i start s kinds first flat best w ≡ searched (solved kept) kept v
+    search-ends h = turn ∙ try-ends (searchFrom m (i + 1) start s kinds first flat)
+      where
+        try-ends : (rest : Settled → List Float → Searched) → tryOf (eqb i 0) best (done r v) rest ≡ searched (solved kept) kept v
+        try-ends rest = unfold tryOf in rw (← ey, ← ek, h)
+
+    pub search-on : lt (kept .residual) tolerance ≡ false → searchFrom (suc m) i start s kinds first flat best w ≡ searchFrom m (i + 1) start s kinds first flat kept v
+    search-on h = turn ∙ try-on (searchFrom m (i + 1) start s kinds first flat)
+      where
+        try-on : (rest : Settled → List Float → Searched) → tryOf (eqb i 0) best (done r v) rest ≡ rest kept v
+        try-on rest = unfold tryOf in rw (← ey, ← ek, h)
+
+  pub search-begins : (c : ℕ) → c ≡ countOf start → (w : List Float) → searchFrom (c - 0) 0 start s kinds first flat (nothing first) w ≡ searchOf start s kinds first flat w
+  unfolding searchOf
+  search-begins c e w =
+      let q : c - 0 ≡ c = omega arith in
+      ap (λ (k : ℕ). searchFrom k 0 start s kinds first flat (nothing first) w) (q ∙ e)

@@ -1,0 +1,247 @@
+// Of pf_ac.rs: ac_pf_with_start. The starts in turn, each through the limit rounds; the best result is kept, and the first below the tolerance ends it.
+use layout::BusKind;
+use layout::Limits;
+use layout::Point;
+use qlim::Settled;
+use real::TOL;
+use starts::References;
+ghost use mathlib.Core.Path.{_≡_};
+ghost use mathlib.Core.Bool.{cond};
+ghost use Prim.Native.Nat.{_≤_, _<_};
+ghost use lib.ListN.{length, getD};
+ghost use lib.Ieee.{nan};
+ghost use Rattle.real.specs.Literals.{nought};
+ghost use Rattle.layout.specs.Table.{table};
+ghost use Rattle.injections.specs.Injections.{ybus};
+ghost use Rattle.qlim.specs.Rounds.{study};
+ghost use Rattle.qlim.specs.Rounds as Rounds;
+ghost use Rattle.starts.specs.References.{Slacks};
+ghost use Rattle.pf_ac.specs.Search.{betterOf, firstOf, startOf, countOf, searched, searchOf};
+ghost use Rattle.pf_ac.specs.Network.{network, Ready, acPfOf};
+
+// Where the iteration starts: flat, or the stored case state first.
+pub enum AcStart {
+    Flat,
+    Case,
+}
+
+// Solved with its residual, or not converged with the best mismatch.
+pub enum AcPf {
+    Solved { iterations: usize, residual: f64 },
+    NotConverged { mismatch: f64, starts: usize },
+}
+
+// The outcome, and the result that was kept.
+pub struct Kept {
+    pub found: AcPf,
+    pub best: Settled,
+}
+
+// ---- the starts
+
+fn first_start(
+    start: AcStart,
+    n: usize,
+    vm_set: &[f64],
+    vm_case: &[f64],
+    va_case: &[f64],
+    r: References,
+    flat: Point,
+) -> Point
+    requires { ⌜ (n ≤ 32) × (n ≤ length (now «vm_set»)) × (n ≤ length (now «vm_case»)) × (n ≤ length (now «va_case»)) × Slacks n r ⌝ }
+    ensures { λ p. ⌜ p ≡ firstOf start n (now («vm_set» .entry)) (now («vm_case» .entry)) (now («va_case» .entry)) r flat ⌝ }
+{
+    match start {
+        AcStart::Flat => flat,
+        AcStart::Case => starts::case_start(n, vm_set, vm_case, va_case, r),
+    }
+}
+
+// The first start, and then those from the flat one on.
+fn start_at(
+    start: AcStart,
+    n: usize,
+    kinds: [BusKind; 32],
+    first: Point,
+    flat: Point,
+    i: usize,
+) -> Point
+    requires { ⌜ (n ≤ 32) × (i ≤ 32) ⌝ }
+    ensures { λ p. ⌜ p ≡ startOf start n kinds first flat i ⌝ }
+{
+    if i == 0 {
+        return first;
+    }
+    match start {
+        AcStart::Flat => starts::from_flat(n, kinds, flat, i),
+        AcStart::Case => starts::from_flat(n, kinds, flat, i - 1),
+    }
+}
+
+fn start_count(start: AcStart) -> usize
+    ensures { λ r. ⌜ (r ≡ countOf start) × (r ≤ 6) ⌝ }
+{
+    match start {
+        AcStart::Flat => 5,
+        AcStart::Case => 6,
+    }
+}
+
+// ---- the search
+
+// The first is kept, then any that is no NaN and is smaller or follows a NaN.
+fn better(first: bool, best: f64, res: f64) -> bool
+    ensures { λ r. ⌜ r ≡ betterOf first best res ⌝ }
+{
+    if first {
+        return true;
+    }
+    if res != res {
+        return false;
+    }
+    if best != best {
+        return true;
+    }
+    res < best
+}
+
+fn pick(yes: bool, a: Settled, b: Settled) -> Settled
+    ensures { λ r. ⌜ r ≡ cond yes a b ⌝ }
+{
+    if yes { a } else { b }
+}
+
+fn search(
+    start: AcStart,
+    n: usize,
+    kinds: [BusKind; 32],
+    y_row: &[usize],
+    y_col: &[usize],
+    y_re: &[f64],
+    y_im: &[f64],
+    pd: &[f64],
+    qd: &[f64],
+    pg: &[f64],
+    qg: [f64; 32],
+    limits: Limits,
+    vm_hold: [f64; 32],
+    first: Point,
+    flat: Point,
+    w: &mut [f64],
+) -> Kept
+    requires { ⌜ Rounds.Ready (study n (ybus (now «y_row») (now «y_col») (now «y_re») (now «y_im»)) (now pd) (now qd) (now pg) qg limits «vm_hold») × (4160 ≤ length (now w)) ⌝ }
+    ensures { λ r. ⌜ searched (r .found) (r .best) (now (w .exit)) ≡ searchOf start (study n (ybus (now («y_row» .entry)) (now («y_col» .entry)) (now («y_re» .entry)) (now («y_im» .entry))) (now (pd .entry)) (now (qd .entry)) (now (pg .entry)) qg limits «vm_hold») kinds first flat (now (w .entry)) ⌝ }
+{
+    let count = start_count(start);
+    let mut best = Settled {
+        point: first,
+        letters: [0u8; 32],
+        iterations: 0,
+        residual: 0.0,
+    };
+    for i in 0..count {
+        let p = start_at(start, n, kinds, first, flat, i);
+        let s = qlim::solve_qlim(
+            n,
+            kinds,
+            y_row,
+            y_col,
+            y_re,
+            y_im,
+            pd,
+            qd,
+            pg,
+            qg,
+            limits,
+            vm_hold,
+            p,
+            w,
+        );
+        let yes = better(i == 0, best.residual, s.residual);
+        best = pick(yes, s, best);
+        if best.residual < TOL {
+            return Kept {
+                found: AcPf::Solved {
+                    iterations: best.iterations,
+                    residual: best.residual,
+                },
+                best,
+            };
+        }
+    }
+    Kept {
+        found: AcPf::NotConverged {
+            mismatch: best.residual,
+            starts: count,
+        },
+        best,
+    }
+}
+
+// ---- all of it
+
+// A column's first n places in a table.
+fn column(n: usize, l: &[f64]) -> [f64; 32]
+    requires { ⌜ (n ≤ 32) × (n ≤ length (now l)) ⌝ }
+    ensures { λ r. ⌜ r ≡ table n nought (λ b. getD (now (l .entry)) b nan) ⌝ }
+{
+    let mut t = [0.0; 32];
+    for b in 0..n {
+        t[b] = l[b];
+    }
+    t
+}
+
+pub fn ac_pf_with_start(
+    kind: &[u8],
+    vm_set: &[f64],
+    pd: &[f64],
+    qd: &[f64],
+    pg: &[f64],
+    qg: &[f64],
+    vm_case: &[f64],
+    va_case: &[f64],
+    slacks: &[usize],
+    va_slacks: &[f64],
+    gen_bus: &[usize],
+    qmin: &[f64],
+    qmax: &[f64],
+    br_from: &[usize],
+    br_to: &[usize],
+    y_row: &[usize],
+    y_col: &[usize],
+    y_re: &[f64],
+    y_im: &[f64],
+    start: AcStart,
+    w: &mut [f64],
+) -> Kept
+    requires { ⌜ Ready (network (now kind) (now «vm_set») (now pd) (now qd) (now pg) (now qg) (now «vm_case») (now «va_case») (now slacks) (now «va_slacks») (now «gen_bus») (now qmin) (now qmax) (now «br_from») (now «br_to») (now «y_row») (now «y_col») (now «y_re») (now «y_im») start) × (4160 ≤ length (now w)) ⌝ }
+    ensures { λ r. ⌜ searched (r .found) (r .best) (now (w .exit)) ≡ acPfOf (network (now (kind .entry)) (now («vm_set» .entry)) (now (pd .entry)) (now (qd .entry)) (now (pg .entry)) (now (qg .entry)) (now («vm_case» .entry)) (now («va_case» .entry)) (now (slacks .entry)) (now («va_slacks» .entry)) (now («gen_bus» .entry)) (now (qmin .entry)) (now (qmax .entry)) (now («br_from» .entry)) (now («br_to» .entry)) (now («y_row» .entry)) (now («y_col» .entry)) (now («y_re» .entry)) (now («y_im» .entry)) start) (now (w .entry)) ⌝ }
+{
+    let n = kind.len();
+    let kinds = layout::default_kinds(n, kind, slacks);
+    let limits = layout::aggregate_q(gen_bus, qmin, qmax);
+    let references = starts::island_references(n, slacks, va_slacks, br_from, br_to);
+    let flat = starts::flat_start(n, vm_set, references);
+    let first = first_start(start, n, vm_set, vm_case, va_case, references, flat);
+    let sched = column(n, qg);
+    let hold = column(n, vm_set);
+    search(
+        start,
+        n,
+        kinds,
+        y_row,
+        y_col,
+        y_re,
+        y_im,
+        pd,
+        qd,
+        pg,
+        sched,
+        limits,
+        hold,
+        first,
+        flat,
+        w,
+    )
+}
