@@ -1,0 +1,10 @@
+-- `tables::roomy` meets its contract, by those of its calls. Assumes nothing.
+use borrow.Author.Needs.{needs}
+use Rattle.tables.proofs.roomy.Statement.{statement}
+use Rattle.tables.proofs.roomy.Tie as tie
+
+returns : tie.Need-returns
+returns c = cc
+
+pub roomy-spec : {M : Type 1} → statement M
+roomy-spec = tie.close (tie.spec (λ c κs. search needs) (λ c κs. search needs) (λ c κs. search needs) (λ c κs. search needs) (λ c κs. search needs) returns)

@@ -1,0 +1,297 @@
+// The solve over tables: the public call. Counts, lengths and bus numbers are checked, in that order, before anything is written.
+use pf_ac::AcPf;
+use pf_ac::AcStart;
+use qlim::Settled;
+ghost use mathlib.Core.Path.{_≡_};
+ghost use Prim.Native.Nat.{_≤_};
+ghost use lib.ListN.{length, getD};
+ghost use lib.Ieee.{nan};
+ghost use Rattle.layout.specs.Table.{stores};
+ghost use Rattle.injections.specs.Injections.{ybus, Good};
+ghost use Rattle.pf_ac.specs.Network.{network};
+ghost use Rattle.tables.specs.Tables.{both, same3, same7, allBelow, countedBy, roomyBy, numberedBy, outs, writtenOf, zeros, paperOf, answer, solveOf};
+
+// What the call answers. Each refusal is one of the paper's: Counts is 7, Room 9, Bus 8, NotConverged 10.
+pub enum Outcome {
+    Solved { iterations: usize, residual: f64 },
+    Counts,
+    Room,
+    Bus,
+    NotConverged { mismatch: f64, starts: usize },
+}
+
+// ---- the checks
+
+fn and(a: bool, b: bool) -> bool
+    ensures { λ r. ⌜ r ≡ both a b ⌝ }
+{
+    if a { b } else { false }
+}
+
+fn equal3(n: usize, a: usize, b: usize, c: usize) -> bool
+    ensures { λ r. ⌜ r ≡ same3 n a b c ⌝ }
+{
+    and(a == n, and(b == n, c == n))
+}
+
+fn equal7(n: usize, a: usize, b: usize, c: usize, d: usize, e: usize, f: usize, g: usize) -> bool
+    ensures { λ r. ⌜ r ≡ same7 n a b c d e f g ⌝ }
+{
+    and(equal3(n, a, b, c), and(d == n, equal3(n, e, f, g)))
+}
+
+// Whether each number of the column is below n.
+fn below(n: usize, l: &[usize]) -> bool
+    ensures { λ r. ⌜ r ≡ allBelow (length (now (l .entry))) n (now (l .entry)) ⌝ }
+{
+    let mut ok = true;
+    for i in 0..l.len() {
+        ok = and(ok, l[i] < n);
+    }
+    ok
+}
+
+// Refusal 7, of the lengths of the nineteen columns.
+fn counted(
+    kind: usize,
+    vm_set: usize,
+    pd: usize,
+    qd: usize,
+    pg: usize,
+    qg: usize,
+    vm_case: usize,
+    va_case: usize,
+    slacks: usize,
+    va_slacks: usize,
+    gen_bus: usize,
+    qmin: usize,
+    qmax: usize,
+    br_from: usize,
+    br_to: usize,
+    y_row: usize,
+    y_col: usize,
+    y_re: usize,
+    y_im: usize,
+) -> bool
+    ensures { λ r. ⌜ r ≡ countedBy kind «vm_set» pd qd pg qg «vm_case» «va_case» slacks «va_slacks» «gen_bus» qmin qmax «br_from» «br_to» «y_row» «y_col» «y_re» «y_im» ⌝ }
+{
+    let a = and(
+        kind <= 32,
+        equal7(kind, vm_set, pd, qd, pg, qg, vm_case, va_case),
+    );
+    let b = and(slacks <= 32, va_slacks == slacks);
+    let c = and(gen_bus <= 32, and(qmin == gen_bus, qmax == gen_bus));
+    let d = and(br_from <= 64, br_to == br_from);
+    let e = and(y_row <= 256, equal3(y_row, y_col, y_re, y_im));
+    and(a, and(b, and(c, and(d, e))))
+}
+
+// Refusal 9, of the lengths of the answer columns and the workspace.
+fn roomy(n: usize, vm: usize, va: usize, p: usize, q: usize, kinds: usize, w: usize) -> bool
+    ensures { λ r. ⌜ r ≡ roomyBy n vm va p q kinds w ⌝ }
+{
+    and(
+        n <= vm,
+        and(
+            n <= va,
+            and(n <= p, and(n <= q, and(n <= kinds, 6144 <= w))),
+        ),
+    )
+}
+
+// Refusal 8.
+fn numbered(
+    n: usize,
+    slacks: &[usize],
+    gen_bus: &[usize],
+    br_from: &[usize],
+    br_to: &[usize],
+    y_row: &[usize],
+    y_col: &[usize],
+) -> bool
+    ensures { λ r. ⌜ r ≡ numberedBy n (now (slacks .entry)) (now («gen_bus» .entry)) (now («br_from» .entry)) (now («br_to» .entry)) (now («y_row» .entry)) (now («y_col» .entry)) ⌝ }
+{
+    and(
+        below(n, slacks),
+        and(
+            below(n, gen_bus),
+            and(
+                below(n, br_from),
+                and(below(n, br_to), and(below(n, y_row), below(n, y_col))),
+            ),
+        ),
+    )
+}
+
+// ---- what is written
+
+// One place per bus, and none past them.
+fn fill(n: usize, from: [f64; 32], out: &mut [f64])
+    requires { ⌜ (n ≤ 32) × (n ≤ length (now out)) ⌝ }
+    ensures { λ _. ⌜ now (out .exit) ≡ stores (λ b. getD from b nan) n (now (out .entry)) ⌝ }
+{
+    for b in 0..n {
+        out[b] = from[b];
+    }
+}
+
+fn fill_bytes(n: usize, from: [u8; 32], out: &mut [u8])
+    requires { ⌜ (n ≤ 32) × (n ≤ length (now out)) ⌝ }
+    ensures { λ _. ⌜ now (out .exit) ≡ stores (λ b. getD from b 0) n (now (out .entry)) ⌝ }
+{
+    for b in 0..n {
+        out[b] = from[b];
+    }
+}
+
+// The five answer columns, with the powers that the voltages carry.
+fn write_answer(
+    n: usize,
+    y_row: &[usize],
+    y_col: &[usize],
+    y_re: &[f64],
+    y_im: &[f64],
+    best: Settled,
+    vm: &mut [f64],
+    va: &mut [f64],
+    p: &mut [f64],
+    q: &mut [f64],
+    kinds: &mut [u8],
+)
+    requires { ⌜ Good n (ybus (now «y_row») (now «y_col») (now «y_re») (now «y_im»)) × (n ≤ length (now vm)) × (n ≤ length (now va)) × (n ≤ length (now p)) × (n ≤ length (now q)) × (n ≤ length (now kinds)) ⌝ }
+    ensures { λ _. ⌜ (outs (now (vm .exit)) (now (va .exit)) (now (p .exit)) (now (q .exit)) (now (kinds .exit))) ≡ writtenOf n (ybus (now («y_row» .entry)) (now («y_col» .entry)) (now («y_re» .entry)) (now («y_im» .entry))) best (outs (now (vm .entry)) (now (va .entry)) (now (p .entry)) (now (q .entry)) (now (kinds .entry))) ⌝ }
+{
+    let point = best.point;
+    let letters = best.letters;
+    let vms = point.vm;
+    let vas = point.va;
+    let found = injections::ac_injections(n, y_row, y_col, y_re, y_im, vms, vas);
+    let power = found.power;
+    let ps = power.p;
+    let qs = power.q;
+    fill(n, vms, vm);
+    fill(n, vas, va);
+    fill(n, ps, p);
+    fill(n, qs, q);
+    fill_bytes(n, letters, kinds);
+}
+
+// The whole workspace, however long, is zeros.
+fn zero(w: &mut [f64])
+    ensures { λ _. ⌜ now (w .exit) ≡ zeros (now (w .entry)) ⌝ }
+{
+    for i in 0..w.len() {
+        w[i] = 0.0;
+    }
+}
+
+// ---- the call
+
+pub fn solve(
+    kind: &[u8],
+    vm_set: &[f64],
+    pd: &[f64],
+    qd: &[f64],
+    pg: &[f64],
+    qg: &[f64],
+    vm_case: &[f64],
+    va_case: &[f64],
+    slacks: &[usize],
+    va_slacks: &[f64],
+    gen_bus: &[usize],
+    qmin: &[f64],
+    qmax: &[f64],
+    br_from: &[usize],
+    br_to: &[usize],
+    y_row: &[usize],
+    y_col: &[usize],
+    y_re: &[f64],
+    y_im: &[f64],
+    start: AcStart,
+    vm: &mut [f64],
+    va: &mut [f64],
+    p: &mut [f64],
+    q: &mut [f64],
+    kinds: &mut [u8],
+    w: &mut [f64],
+) -> Outcome
+    ensures { λ r. ⌜ answer (paperOf r) (outs (now (vm .exit)) (now (va .exit)) (now (p .exit)) (now (q .exit)) (now (kinds .exit))) (now (w .exit)) ≡ solveOf (network (now (kind .entry)) (now («vm_set» .entry)) (now (pd .entry)) (now (qd .entry)) (now (pg .entry)) (now (qg .entry)) (now («vm_case» .entry)) (now («va_case» .entry)) (now (slacks .entry)) (now («va_slacks» .entry)) (now («gen_bus» .entry)) (now (qmin .entry)) (now (qmax .entry)) (now («br_from» .entry)) (now («br_to» .entry)) (now («y_row» .entry)) (now («y_col» .entry)) (now («y_re» .entry)) (now («y_im» .entry)) start) (outs (now (vm .entry)) (now (va .entry)) (now (p .entry)) (now (q .entry)) (now (kinds .entry))) (now (w .entry)) ⌝ }
+{
+    let n = kind.len();
+    if !counted(
+        n,
+        vm_set.len(),
+        pd.len(),
+        qd.len(),
+        pg.len(),
+        qg.len(),
+        vm_case.len(),
+        va_case.len(),
+        slacks.len(),
+        va_slacks.len(),
+        gen_bus.len(),
+        qmin.len(),
+        qmax.len(),
+        br_from.len(),
+        br_to.len(),
+        y_row.len(),
+        y_col.len(),
+        y_re.len(),
+        y_im.len(),
+    ) {
+        return Outcome::Counts;
+    }
+    if !roomy(
+        n,
+        vm.len(),
+        va.len(),
+        p.len(),
+        q.len(),
+        kinds.len(),
+        w.len(),
+    ) {
+        return Outcome::Room;
+    }
+    if !numbered(n, slacks, gen_bus, br_from, br_to, y_row, y_col) {
+        return Outcome::Bus;
+    }
+    let r = pf_ac::ac_pf_with_start(
+        kind,
+        vm_set,
+        pd,
+        qd,
+        pg,
+        qg,
+        vm_case,
+        va_case,
+        slacks,
+        va_slacks,
+        gen_bus,
+        qmin,
+        qmax,
+        br_from,
+        br_to,
+        y_row,
+        y_col,
+        y_re,
+        y_im,
+        start,
+        w,
+    );
+    zero(w);
+    let found = r.found;
+    let best = r.best;
+    match found {
+        AcPf::Solved {
+            iterations,
+            residual,
+        } => {
+            write_answer(n, y_row, y_col, y_re, y_im, best, vm, va, p, q, kinds);
+            Outcome::Solved {
+                iterations,
+                residual,
+            }
+        }
+        AcPf::NotConverged { mismatch, starts } => Outcome::NotConverged { mismatch, starts },
+    }
+}
