@@ -125,10 +125,8 @@ def layout_of(kinds):
     """Columns: the angles of non-slack buses, then the magnitudes of Q buses. Rows match."""
     angles = [b for b, k in enumerate(kinds) if k != "S"]
     magnitudes = [b for b, k in enumerate(kinds) if k == "Q"]
-    place = {("a", b): c for c, b in enumerate(angles)}
-    place.update({("m", b): len(angles) + c for c, b in enumerate(magnitudes)})
-    a = [place.get(("a", b), NONE) for b in range(len(kinds))]
-    m = [place.get(("m", b), NONE) for b in range(len(kinds))]
+    a = [angles.index(b) if b in angles else NONE for b in range(len(kinds))]
+    m = [len(angles) + magnitudes.index(b) if b in magnitudes else NONE for b in range(len(kinds))]
     return (a, m, a, m), len(angles) + len(magnitudes)
 
 
@@ -147,15 +145,19 @@ def angle(rng):
 
 
 def wide_part(rng):
-    return rng.choice((-1.0, 1.0)) * 10.0 ** rng.uniform(-300, 300)
+    return rng.choice((-1.0, 1.0)) * 10.0 ** rng.uniform(-120, 120)
 
 
 def wide_magnitude(rng):
-    return rng.choice((-1.0, 1.0)) * 10.0 ** rng.uniform(-200, 200)
+    return rng.choice((-1.0, 1.0)) * 10.0 ** rng.uniform(-60, 60)
 
 
 def wide_angle(rng):
     return rng.choice((rng.uniform(-1024, 1024), rng.uniform(-4, 4), 10.0 ** rng.uniform(-300, 0)))
+
+
+def edge_part(rng):
+    return rng.choice((-1.0, 1.0)) * 10.0 ** rng.choice((rng.uniform(-320, -280), rng.uniform(-1, 1), rng.uniform(300, 308)))
 
 
 def zero_part(rng):
@@ -170,20 +172,23 @@ def special(rng):
     return rng.choice((NAN, INF, -INF, 0.0, -0.0, 1.7e308, 5e-324))
 
 
-def mixed(f):
-    return lambda rng: special(rng) if rng.random() < 0.15 else f(rng)
+def far(rng):
+    return rng.choice((1024.0000000000002, -1025.0, 1e300, -1e18))
 
 
-def far_angle(rng):
-    return rng.choice((1024.0000000000002, -1025.0, 1e300, -1e18)) if rng.random() < 0.2 else angle(rng)
+def mixed(f, rare, rate):
+    """Mostly f; a rare one now and then, so few in a large point that not everything there turns NaN."""
+    return lambda rng: rare(rng) if rng.random() < rate else f(rng)
 
 
 CLASSES = {
     "plain": (part, magnitude, angle),
     "wide": (wide_part, wide_magnitude, wide_angle),
+    "edge": (edge_part, magnitude, angle),
     "zeros": (zero_part, zero_part, zero_angle),
-    "special": (mixed(part), mixed(magnitude), mixed(angle)),
-    "far": (part, magnitude, far_angle),
+    "special": (mixed(part, special, 0.1), mixed(magnitude, special, 0.1), mixed(angle, special, 0.1)),
+    "few": (mixed(part, special, 0.004), mixed(magnitude, special, 0.03), mixed(angle, special, 0.01)),
+    "far": (part, magnitude, mixed(angle, far, 0.06)),
 }
 
 
@@ -198,26 +203,34 @@ def triplets(rng, n, m, draw, diagonal):
 def point(rng, n, m, kind, diagonal=1, kinds="SVQ"):
     y, r, t = CLASSES[kind]
     ybus = triplets(rng, n, m if n else 0, y, diagonal)
-    return ybus, [r(rng) for _ in range(n)], [t(rng) for _ in range(n)], [rng.choice(kinds) for _ in range(n)]
+    return ybus, [r(rng) for _ in range(n)], [t(rng) for _ in range(n)], layout_of([rng.choice(kinds) for _ in range(n)])
+
+
+def crowded(rng, n, m, dim):
+    """Rows and columns drawn at random, so that entries of one triplet meet in one place and their order shows."""
+    ybus, vm, va, _ = point(rng, n, m, "plain")
+    return ybus, vm, va, (tuple([rng.choice((NONE, *range(dim))) for _ in range(n)] for _ in range(4)), dim)
 
 
 def points(rng):
     yield point(rng, 0, 0, "plain")
     for kind in "SVQ":
-        yield [(0, 0, Number(2.0, -8.0))], [1.0], [0.0], [kind]
+        yield [(0, 0, Number(2.0, -8.0))], [1.0], [0.0], layout_of([kind])
         # two diagonal triplets on one bus: the current counts twice
-        yield [(0, 0, Number(1.0, 0.0)), (0, 0, Number(1.0, 0.0))], [1.0], [0.0], [kind]
+        yield [(0, 0, Number(1.0, 0.0)), (0, 0, Number(1.0, 0.0))], [1.0], [0.0], layout_of([kind])
     for kind in CLASSES:
-        for k in range(36):
+        for k in range(27):
             n = 1 + k % 9
             yield point(rng, n, rng.randrange(4 * n), kind, k % 3)
         for kinds in ("S", "V", "Q", "VQ"):
             yield point(rng, 5, 16, kind, 1, kinds)
         yield point(rng, 32, 256, kind, 1, "SVQQQ")
         yield point(rng, 32, 256, kind, 2, "SVVQ")
+    for k in range(16):
+        yield crowded(rng, 2 + k % 7, 24, 1 + k % 5)
     yield point(rng, 32, 256, "plain", 1, "Q")
     yield point(rng, 32, 94, "plain", 1, "Q")
-    yield point(rng, 32, 256, "special", 0, "QQV")
+    yield point(rng, 32, 256, "few", 0, "QQV")
     yield point(rng, 20, 70, "special", 1, "QQV")
 
 
@@ -225,8 +238,8 @@ def bits(x):
     return struct.pack(">d", x) if x == x else struct.pack(">Q", 0x7FF8000000000000)
 
 
-def told(ybus, vm, va, kinds):
-    layout, dim = layout_of(kinds)
+def told(ybus, vm, va, place):
+    layout, dim = place
     v, i_bus, s = ac_injections(ybus, vm, va)
     rows = matrix(ac_jacobian(ybus, vm, va, i_bus, layout), dim)
     numbers = [[i for i, _, _ in ybus], [k for _, k, _ in ybus]]

@@ -1,0 +1,113 @@
+-- What read_case's contract settles: two outcomes that meet it are equal, columns included; it accepts exactly what the definition accepts, and
+-- then writes the definition's values; otherwise the columns are as they were. Assumes nothing.
+use mathlib.Core.Path.{_≡_, refl, sym, ap, _∙_}
+use mathlib.Core.Bool.{true, false, cond}
+use mathlib.Core.Logic.{_↔_, ⊎-elim}
+use mathlib.Core.List.{List, [], _∷_}
+use Prim.Native.Nat.{ℕ, _-_}
+use native.Mathlib.Omega.{arith}
+use lib.Dec.{eqb}
+use lib.ListN.{length, getD}
+use Rattle.fields.specs.Cut.Laws.{decided}
+use Rattle.case_text.specs.Text.{textOf}
+use Rattle.case_text.specs.Answer.{Paper, accepted, refused, paperOf, Columns, roomOf, fitsOf, withRoom, judgedOf, writtenOf, Outcome, outcome, settledOf, readOf}
+use Rattle.case_text.specs.declared.Tables.{Tables}
+use Rattle.case_text.specs.declared.Room.{Room}
+use Rattle.case_text.specs.declared.Reading.{Reading}
+use Rattle.case_text.specs.declared.Reading.the-variants as Reading
+
+-- ---- 01's number and values tell the answers apart
+
+abbrev numbered : ℕ → ℕ → Reading
+numbered n at =
+    cond (eqb n 1) (Reading.Length at)
+    (cond (eqb n 2) (Reading.Trailer at)
+    (cond (eqb n 3) (Reading.Byte at)
+    (cond (eqb n 6) (Reading.Rows at)
+    (cond (eqb n 4) (Reading.Form at)
+    (cond (eqb n 5) (Reading.Field at) Reading.Short)))))
+
+abbrev back : Paper → Reading
+back (accepted c) = Reading.Good c
+back (refused n values) = numbered n (getD values 0 0)
+
+back-paper : (r : Reading) → back (paperOf r) ≡ r
+back-paper (Reading.Good c) = refl
+back-paper (Reading.Length at) = refl
+back-paper (Reading.Trailer at) = refl
+back-paper (Reading.Byte at) = refl
+back-paper (Reading.Rows at) = refl
+back-paper (Reading.Form at) = refl
+back-paper (Reading.Field at) = refl
+back-paper Reading.Short = refl
+
+pub paper-tells : (r₁ r₂ : Reading) → paperOf r₁ ≡ paperOf r₂ → r₁ ≡ r₂
+paper-tells r₁ r₂ h = sym (back-paper r₁) ∙ ap back h ∙ back-paper r₂
+
+abbrev answer : Outcome → Paper
+answer (outcome p c) = p
+
+abbrev left : Outcome → Columns
+left (outcome p c) = c
+
+-- ---- two outcomes that meet the contract are equal, lent memory included
+
+pub same-outcome : (s : List ℕ) (old : Columns) (r₁ r₂ : Reading) (new₁ new₂ : Columns) → outcome (paperOf r₁) new₁ ≡ readOf s old
+    → outcome (paperOf r₂) new₂ ≡ readOf s old → (r₁ ≡ r₂) × (new₁ ≡ new₂)
+same-outcome s old r₁ r₂ new₁ new₂ h k = let e = h ∙ sym k in (paper-tells r₁ r₂ (ap answer e), ap left e)
+
+-- ---- what it accepts, and what it leaves
+
+settled-answer : (s : List ℕ) (v : Reading) (old : Columns) → answer (settledOf s v old) ≡ paperOf v
+settled-answer s (Reading.Good c) old = refl
+settled-answer s (Reading.Length at) old = refl
+settled-answer s (Reading.Trailer at) old = refl
+settled-answer s (Reading.Byte at) old = refl
+settled-answer s (Reading.Rows at) old = refl
+settled-answer s (Reading.Form at) old = refl
+settled-answer s (Reading.Field at) old = refl
+settled-answer s Reading.Short old = refl
+
+settled-left : (s : List ℕ) (v : Reading) (old : Columns) → ((c : Tables) → v ≡ Reading.Good c → ⊥) → left (settledOf s v old) ≡ old
+settled-left s (Reading.Good c) old h = absurd (h c refl)
+settled-left s (Reading.Length at) old h = refl
+settled-left s (Reading.Trailer at) old h = refl
+settled-left s (Reading.Byte at) old h = refl
+settled-left s (Reading.Rows at) old h = refl
+settled-left s (Reading.Form at) old h = refl
+settled-left s (Reading.Field at) old h = refl
+settled-left s Reading.Short old h = refl
+
+with-room : (v : Reading) (m : Room) (c : Tables) → withRoom v m ≡ Reading.Good c → (v ≡ Reading.Good c) × (fitsOf c m ≡ true)
+with-room (Reading.Good d) m c h =
+    ⊎-elim
+    (λ q. let e : Reading.Good d ≡ Reading.Good c = rw q at h in let z : d ≡ c = cc in (e, rw z at q))
+    (λ q. let e : Reading.Short ≡ Reading.Good c = rw q at h in let z : _≡_ {A = ℕ} 0 1 = cc in absurd (omega arith))
+    (decided (fitsOf d m))
+with-room (Reading.Length at) m c h = let z : _≡_ {A = ℕ} 0 1 = cc in absurd (omega arith)
+with-room (Reading.Trailer at) m c h = let z : _≡_ {A = ℕ} 0 1 = cc in absurd (omega arith)
+with-room (Reading.Byte at) m c h = let z : _≡_ {A = ℕ} 0 1 = cc in absurd (omega arith)
+with-room (Reading.Rows at) m c h = let z : _≡_ {A = ℕ} 0 1 = cc in absurd (omega arith)
+with-room (Reading.Form at) m c h = let z : _≡_ {A = ℕ} 0 1 = cc in absurd (omega arith)
+with-room (Reading.Field at) m c h = let z : _≡_ {A = ℕ} 0 1 = cc in absurd (omega arith)
+with-room Reading.Short m c h = let z : _≡_ {A = ℕ} 0 1 = cc in absurd (omega arith)
+
+module _ (s : List ℕ) (old new : Columns) (r : Reading) (h : outcome (paperOf r) new ≡ readOf s old) where
+  -- the answer is the definition's
+  pub answer-is : r ≡ judgedOf s (roomOf old)
+  unfolding readOf
+  answer-is = paper-tells r (judgedOf s (roomOf old)) (ap answer h ∙ settled-answer s (judgedOf s (roomOf old)) old)
+
+  -- accepted if and only if the definition accepts the text and its rows fit
+  pub accepts : (c : Tables) → (r ≡ Reading.Good c) ↔ ((textOf s ≡ Reading.Good c) × (fitsOf c (roomOf old) ≡ true))
+  accepts c = (λ e. with-room (textOf s) (roomOf old) c (sym answer-is ∙ e), λ e. answer-is ∙ rw (e .0, e .1))
+
+  -- and then the places written are the definition's values
+  pub writes : (c : Tables) → r ≡ Reading.Good c → new ≡ writtenOf s (length s - 38) old
+  unfolding readOf
+  writes c e = ap left h ∙ ap (λ (v : Reading). left (settledOf s v old)) (sym answer-is ∙ e)
+
+  -- a refusal leaves every column untouched
+  pub refusal-writes-nothing : ((c : Tables) → r ≡ Reading.Good c → ⊥) → new ≡ old
+  unfolding readOf
+  refusal-writes-nothing k = ap left h ∙ ap (λ (v : Reading). left (settledOf s v old)) (sym answer-is) ∙ settled-left s r old k

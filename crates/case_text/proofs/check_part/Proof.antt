@@ -1,0 +1,21 @@
+-- `case_text::check_part` meets its contract: a good trailer's sections lie in the text. Assumes nothing.
+use native.Mathlib.Omega.{arith}
+use borrow.Author.Needs.{needs}
+use Rattle.case_text.specs.Trailer.{bytesOf}
+use Rattle.case_text.specs.Trailer.Laws.{within}
+use Rattle.case_text.specs.Text.{partOf}
+use Rattle.case_text.proofs.check_part.Statement.{statement}
+use Rattle.case_text.proofs.check_part.Tie as tie
+
+check-section-requires : tie.Need-check-section-requires
+check-section-requires c κs =
+    let z = c .before .before .before in
+    let a = z .args in
+    omega (arith, within (a .s .now) (a .t) (z .pre .1) (a .z) .ordered, within (a .s .now) (a .t) (z .pre .1) (a .z) .inside)
+
+returns : tie.Need-returns
+unfolding partOf bytesOf
+returns c = rw (← c .before .before .start-of .ensures, ← c .before .end-of .ensures) (c .check-section .ensures)
+
+pub check-part-spec : {M : Type 1} → statement M
+check-part-spec = tie.close (tie.spec (λ c κs. search needs) (λ c κs. search needs) check-section-requires returns)

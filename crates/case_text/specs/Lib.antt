@@ -1,0 +1,5 @@
+pub mod Alphabet
+pub mod Trailer
+pub mod Text
+pub mod Answer
+pub mod Printed

@@ -1,0 +1,101 @@
+-- No byte of an accepted text is skipped: it is its rows and its trailer, printed; every field of a row is good, and the trailer's groups are
+-- five digits. Assumes nothing.
+use mathlib.Core.Path.{_≡_, refl, sym, ap, _∙_}
+use mathlib.Core.Bool.{true, false}
+use mathlib.Core.Logic.{⊎-elim}
+use mathlib.Core.List.{List, [], _∷_, _++_, append-assoc}
+use Prim.Native.Nat.{ℕ, zero, suc, _+_, _-_, _*_, _≤_, _<_}
+use native.Mathlib.Numerals.{add-one}
+use native.Mathlib.Omega.{arith}
+use lib.Dec.{eqb}
+use lib.ListN.{length, getD, take, drop, drop-of-length-le, take-append-drop}
+use lib.Seq.{slice, drop-cons, drop-append-le, length-take-le}
+use borrow.Author.Tests.{eqb-true, eq-eqb}
+use Rattle.fields.specs.Cut.Laws.{decided, true-false}
+use Rattle.fields.specs.Digits.{digits, digitsOf, isNumber}
+use Rattle.rows.specs.Rows.{rowsOf}
+use Rattle.rows.specs.Printed.{tableOf}
+use Rattle.rows.specs.Printed.Laws.{section-printed, section-sound, Sound}
+use Rattle.rows.specs.declared.Section.{Section}
+use Rattle.rows.specs.declared.Section.the-variants as Section
+use Rattle.rows.specs.declared.Check.the-variants as Check
+use Rattle.case_text.specs.Trailer.{groupOf, startAt, risingOf, startOf, endOf, bytesOf}
+use Rattle.case_text.specs.Trailer.Laws.{Group, first-group, groups-after, Good, good, rising, Within, within}
+use Rattle.case_text.specs.Text.{partOf, textOf}
+use Rattle.case_text.specs.Text.Laws.{accepted-has}
+use Rattle.case_text.specs.Printed.{rowsPrinted, groupsPrinted, trailerPrinted, textPrinted}
+use Rattle.case_text.specs.declared.Tables.{Tables}
+use Rattle.case_text.specs.declared.Reading.the-variants as Reading
+
+slice-join : (s : List ℕ) (a b : ℕ) → a ≤ b → b ≤ length s → slice a b s ++ drop b s ≡ drop a s
+slice-join s a b h k =
+    sym (drop-append-le a (take b s) (drop b s) (rw (length-take-le b s k) h)) ∙ ap (drop a) (take-append-drop b s)
+
+drop-step : (s : List ℕ) (i : ℕ) → i < length s → drop i s ≡ getD s i 0 ∷ drop (i + 1) s
+drop-step s i h = rw add-one (drop-cons s i 0 h)
+
+-- ---- the trailer
+
+pub group-space : (s : List ℕ) (at : ℕ) → isNumber (groupOf s at) ≡ true → getD s at 0 ≡ 32
+group-space s at h = ⊎-elim (λ q. eqb-true (getD s at 0) 32 q) (λ q. absurd (true-false (rw q at h) refl)) (decided (eqb (getD s at 0) 32))
+
+five-digits : (s : List ℕ) (at : ℕ) → isNumber (digitsOf 0 (slice (at + 1) (at + 6) s)) ≡ true → digits (slice (at + 1) (at + 6) s) ≡ true
+five-digits s at h =
+    ⊎-elim (λ q. q) (λ q. absurd (true-false (rw q at h) refl)) (decided (digits (slice (at + 1) (at + 6) s)))
+
+pub group-digits : (s : List ℕ) (at : ℕ) → isNumber (groupOf s at) ≡ true → digits (slice (at + 1) (at + 6) s) ≡ true
+group-digits s at h = five-digits s at (rw (eq-eqb (getD s at 0) 32 (group-space s at h)) at h)
+
+groups-printed : (k : ℕ) (s : List ℕ) (at low end to : ℕ) → risingOf k s at low end ≡ true → at + 6 * k ≡ to → to ≤ length s → drop at s ≡ groupsPrinted k s at ++ drop to s
+unfolding groupsPrinted
+groups-printed zero s at low end to h e w = let q : at ≡ to = omega arith in rw q
+groups-printed (suc k) s at low end to h e w =
+    let g = first-group k s at low end h .number in
+    let rest = groups-printed k s (at + 6) (startAt s at) end to (groups-after k s at low end h (at + 6) refl) (omega arith) w in
+    drop-step s at (omega arith)
+    ∙ rw (group-space s at g, ← slice-join s (at + 1) (at + 6) (omega arith) (omega arith), rest) (ap (λ (x : List ℕ). 32 ∷ x) (sym (append-assoc (slice (at + 1) (at + 6) s) (groupsPrinted k s (at + 6)) (drop to s))))
+
+trailer-printed : (s : List ℕ) (t : ℕ) → t + 38 ≡ length s → Good s t → drop t s ≡ trailerPrinted s t
+trailer-printed s t h w =
+    let z : length s ≤ t + 37 + 1 = omega arith in
+    let e : drop (t + 37) s ≡ 10 ∷ [] =
+    drop-step s (t + 37) (omega arith) ∙ ap (λ (x : ℕ). x ∷ drop (t + 37 + 1) s) (w .end) ∙ ap (λ (x : List ℕ). 10 ∷ x) (drop-of-length-le s z) in
+    drop-step s t (omega arith)
+    ∙ ap (λ (x : List ℕ). getD s t 0 ∷ x)
+    (groups-printed 6 s (t + 1) 0 t (t + 37) (w .groups) (omega arith) (omega arith) ∙ ap (λ (x : List ℕ). groupsPrinted 6 s (t + 1) ++ x) e)
+
+-- ---- the sections
+
+part-printed : (z : Section) (s : List ℕ) (t n : ℕ) (rest : List ℕ) → startOf z s t ≤ endOf z s t → endOf z s t ≤ length s → partOf z s t ≡ Check.Good n
+    → drop (endOf z s t) s ≡ rest → drop (startOf z s t) s ≡ rowsPrinted z s t ++ rest
+unfolding partOf bytesOf
+part-printed z s t n rest h k g q =
+    sym (slice-join s (startOf z s t) (endOf z s t) h k) ∙ ap (λ (x : List ℕ). slice (startOf z s t) (endOf z s t) s ++ x) q
+    ∙ ap (λ (x : List ℕ). x ++ rest) (section-printed z (startOf z s t) (slice (startOf z s t) (endOf z s t) s) n g)
+
+end-inside : (s : List ℕ) (z : Section) → Within (startOf z s (length s - 38)) (endOf z s (length s - 38)) (length s - 38) → 38 ≤ length s
+    → endOf z s (length s - 38) ≤ length s
+end-inside s z w h = omega (arith, w .inside)
+
+-- ---- the whole
+
+pub text-printed : (s : List ℕ) (c : Tables) → textOf s ≡ Reading.Good c → s ≡ textPrinted s (length s - 38)
+text-printed s c h =
+    let t = length s - 38 in
+    let a = accepted-has s c h in
+    let g = good s t (a .trailer) in
+    let u = rising s t g in
+    let w = within s t (a .trailer) in
+    let b = a .body in
+    ap (λ (n : ℕ). drop n s) (sym (g .zero-first))
+    ∙ part-printed Section.B s t (c .buses) _ (w Section.B .ordered) (end-inside s Section.B (w Section.B) (a .least)) (b .buses)
+    (part-printed Section.R s t (c .slacks) _ (w Section.R .ordered) (end-inside s Section.R (w Section.R) (a .least)) (b .slacks)
+    (part-printed Section.G s t (c .generators) _ (w Section.G .ordered) (end-inside s Section.G (w Section.G) (a .least)) (b .generators)
+    (part-printed Section.L s t (c .branches) _ (w Section.L .ordered) (end-inside s Section.L (w Section.L) (a .least)) (b .branches)
+    (part-printed Section.Y s t (c .triplets) _ (w Section.Y .ordered) (end-inside s Section.Y (w Section.Y) (a .least)) (b .triplets)
+    (ap (λ (n : ℕ). drop n s) (u .last) ∙ trailer-printed s t (omega (arith, a .least)) g)))))
+
+-- every field of every row is what is asked of it
+pub fields-sound : (s : List ℕ) (t n : ℕ) (z : Section) → partOf z s t ≡ Check.Good n → (k : ℕ) → k < length (rowsOf (bytesOf z s t)) → Sound z (getD (tableOf (bytesOf z s t)) k [])
+unfolding partOf
+fields-sound s t n z h k i = section-sound z (startOf z s t) (bytesOf z s t) n h k i

@@ -1,0 +1,94 @@
+-- What an accepted text has: each check's answer on the way. Assumes nothing.
+use mathlib.Core.Path.{_≡_, refl}
+use mathlib.Core.Bool.{true, cond}
+use mathlib.Core.Logic.{⊎-elim}
+use mathlib.Core.List.{List}
+use Prim.Native.Nat.{ℕ, _-_, _≤_}
+use lib.Dec.{ltb}
+use lib.ListN.{length, getD}
+use lib.Seq.{slice}
+use borrow.Author.Tests.{ltb-false}
+use Rattle.fields.specs.Cut.Laws.{decided}
+use Rattle.rows.specs.declared.Section.the-variants as Section
+use Rattle.rows.specs.declared.Check.{Check}
+use Rattle.rows.specs.declared.Check.the-variants as Check
+use Rattle.case_text.specs.Alphabet.{knownOf}
+use Rattle.case_text.specs.Trailer.{modeOf, trailerOf}
+use Rattle.case_text.specs.Text.{partOf, thenSection, afterY, afterL, afterG, afterR, afterB, bodyOf, afterTrailer, afterLength, textOf}
+use Rattle.case_text.specs.declared.Tables.{Tables}
+use Rattle.case_text.specs.declared.Reading.{Reading}
+use Rattle.case_text.specs.declared.Reading.the-variants as Reading
+
+-- each section of the body is good, and its rows are counted
+pub record Body (s : List ℕ) (t : ℕ) (c : Tables) : Type 0 where
+  pub start : c .start ≡ modeOf (getD s t 0)
+  pub buses : partOf Section.B s t ≡ Check.Good (c .buses)
+  pub slacks : partOf Section.R s t ≡ Check.Good (c .slacks)
+  pub generators : partOf Section.G s t ≡ Check.Good (c .generators)
+  pub branches : partOf Section.L s t ≡ Check.Good (c .branches)
+  pub triplets : partOf Section.Y s t ≡ Check.Good (c .triplets)
+
+pub record Accepted (s : List ℕ) (t : ℕ) (c : Tables) : Type 0 where
+  pub least : 38 ≤ length s
+  pub most : length s ≤ 32768
+  pub trailer : trailerOf s t ≡ true
+  pub known : t ≤ knownOf (slice 0 t s)
+  pub body : Body s t c
+
+-- P of the tables, where there are any
+abbrev pub Where : (Tables → Type 0) → Reading → Type 0
+Where P (Reading.Good c) = P c
+Where P (Reading.Length at) = Unit
+Where P (Reading.Trailer at) = Unit
+Where P (Reading.Byte at) = Unit
+Where P (Reading.Rows at) = Unit
+Where P (Reading.Form at) = Unit
+Where P (Reading.Field at) = Unit
+Where P Reading.Short = Unit
+
+pub on : (P Q : Tables → Type 0) (v : Reading) → ((c : Tables) → P c → Q c) → Where P v → Where Q v
+on P Q (Reading.Good c) f h = f c h
+on P Q (Reading.Length at) f h = tt
+on P Q (Reading.Trailer at) f h = tt
+on P Q (Reading.Byte at) f h = tt
+on P Q (Reading.Rows at) f h = tt
+on P Q (Reading.Form at) f h = tt
+on P Q (Reading.Field at) f h = tt
+on P Q Reading.Short f h = tt
+
+sections : (P : Tables → Type 0) (v : Check) (k : ℕ → Reading) → ((n : ℕ) → v ≡ Check.Good n → Where P (k n)) → Where P (thenSection v k)
+sections P (Check.Good n) k h = h n refl
+sections P (Check.Rows n) k h = tt
+sections P (Check.Form n) k h = tt
+sections P (Check.Field n) k h = tt
+
+module _ (s : List ℕ) (t : ℕ) where
+  body-sound : Where (Body s t) (bodyOf s t)
+  unfolding bodyOf
+  body-sound =
+      sections (Body s t) (partOf Section.B s t) (afterB s t) (λ nb b.
+      sections (Body s t) (partOf Section.R s t) (afterR s t nb) (λ nr r.
+      sections (Body s t) (partOf Section.G s t) (afterG s t nb nr) (λ ng g.
+      sections (Body s t) (partOf Section.L s t) (afterL s t nb nr ng) (λ nl l.
+      sections (Body s t) (partOf Section.Y s t) (afterY s t nb nr ng nl) (λ ny y.
+      record { start = refl; buses = b; slacks = r; generators = g; branches = l; triplets = y })))))
+
+  module _ (low : 38 ≤ length s) (high : length s ≤ 32768) where
+    known-sound : trailerOf s t ≡ true → Where (Accepted s t) (afterTrailer s t)
+    known-sound w =
+        ⊎-elim (λ q. rw q tt)
+        (λ q. rw q (on (Body s t) (Accepted s t) (bodyOf s t) (λ c b. record { least = low; most = high; trailer = w; known = ltb-false (knownOf (slice 0 t s)) t q; body = b }) body-sound))
+        (decided (ltb (knownOf (slice 0 t s)) t))
+
+    trailer-sound : Where (Accepted s t) (afterLength s t)
+    trailer-sound = ⊎-elim (λ q. rw q (known-sound q)) (λ q. rw q tt) (decided (trailerOf s t))
+
+module _ (s : List ℕ) where
+  most-sound : 38 ≤ length s → Where (Accepted s (length s - 38)) (cond (ltb 32768 (length s)) (Reading.Length 32768) (afterLength s (length s - 38)))
+  most-sound h = ⊎-elim (λ q. rw q tt) (λ q. rw q (trailer-sound s (length s - 38) h (ltb-false 32768 (length s) q))) (decided (ltb 32768 (length s)))
+
+  pub text-sound : Where (Accepted s (length s - 38)) (textOf s)
+  text-sound = ⊎-elim (λ q. rw q tt) (λ q. rw q (most-sound (ltb-false (length s) 38 q))) (decided (ltb (length s) 38))
+
+  pub accepted-has : (c : Tables) → textOf s ≡ Reading.Good c → Accepted s (length s - 38) c
+  accepted-has c h = rw h at text-sound

@@ -1,0 +1,398 @@
+// The case text: its trailer, its alphabet, its sections in turn, and then its columns.
+ghost use mathlib.Core.Path.{_≡_};
+ghost use mathlib.Core.Bool.{true};
+ghost use Prim.Native.Nat.{_+_, _-_, _*_, _≤_, min};
+ghost use lib.ListN.{length};
+ghost use lib.Seq.{slice};
+ghost use Rattle.fields.specs.Cut.{has};
+ghost use Rattle.case_text.specs.Alphabet.{alphabet, knownOf};
+ghost use Rattle.case_text.specs.Trailer.{groupOf, startAt, risingOf, flagged, modeOf, trailerOf, offsetOf, nextOf, startOf, endOf, placesOf};
+ghost use Rattle.case_text.specs.Text.{partOf, refusedOf, bodyOf, textOf};
+ghost use Rattle.case_text.specs.Answer.{columns, outcome, paperOf, readOf, fitsOf, judgedOf};
+
+// Which start a text asks for.
+pub enum Start {
+    Flat,
+    Case,
+}
+
+// What a good text holds: its start, and the rows of each table.
+pub struct Tables {
+    pub start: Start,
+    pub buses: usize,
+    pub slacks: usize,
+    pub generators: usize,
+    pub branches: usize,
+    pub triplets: usize,
+}
+
+// The answer: the tables, or one of the refusals 1, 2, 3, 6, 4, 5 with its place, or 9.
+pub enum Reading {
+    Good(Tables),
+    Length(usize),
+    Trailer(usize),
+    Byte(usize),
+    Rows(usize),
+    Form(usize),
+    Field(usize),
+    Short,
+}
+
+// The places that the shortest column of each table has.
+struct Room {
+    buses: usize,
+    slacks: usize,
+    generators: usize,
+    branches: usize,
+    triplets: usize,
+}
+
+// Where the sections start, and the trailer.
+struct Places {
+    b: usize,
+    r: usize,
+    g: usize,
+    l: usize,
+    y: usize,
+    t: usize,
+}
+
+// Whether a byte is of the alphabet.
+fn known(b: u8) -> bool
+    ensures { λ r. ⌜ r ≡ has b alphabet ⌝ }
+{
+    let t = b"\n -.0123456789?BRGLYVQ";
+    fields::find(t, 0, 22, b) < 22
+}
+
+// The place of the first byte before e that is not of the alphabet, or e.
+fn stranger(s: &[u8], e: usize) -> usize
+    requires { ⌜ e ≤ length (now s) ⌝ }
+    ensures { λ r. ⌜ r ≡ knownOf (slice 0 e (now (s .entry))) ⌝ }
+{
+    let mut i: usize = 0;
+    while i < e {
+        if known(s[i]) {
+            i += 1;
+        } else {
+            return i;
+        }
+    }
+    i
+}
+
+// A space and five digits.
+fn group(s: &[u8], at: usize) -> fields::Digits
+    requires { ⌜ at + 6 ≤ length (now s) ⌝ }
+    ensures { λ r. ⌜ r ≡ groupOf (now (s .entry)) at ⌝ }
+{
+    if s[at] == 32 {
+        return fields::whole(s, at + 1, at + 6, 0);
+    }
+    fields::Digits::Other
+}
+
+// The number of a group.
+fn start_at(s: &[u8], at: usize) -> usize
+    requires { ⌜ at + 6 ≤ length (now s) ⌝ }
+    ensures { λ r. ⌜ r ≡ startAt (now (s .entry)) at ⌝ }
+{
+    fields::number_in(group(s, at))
+}
+
+// Whether n groups stand from at on, whose numbers never fall, and the last is `end`.
+fn rising(s: &[u8], at: usize, n: usize, end: usize) -> bool
+    requires { ⌜ at + 6 * n ≤ length (now s) ⌝ }
+    ensures { λ r. ⌜ r ≡ risingOf n (now (s .entry)) at 0 end ⌝ }
+{
+    let mut low: usize = 0;
+    let mut i = at;
+    let mut k = n;
+    while 0 < k {
+        let fields::Digits::Number(m) = group(s, i) else {
+            return false;
+        };
+        if m < low {
+            return false;
+        }
+        low = m;
+        i += 6;
+        k -= 1;
+    }
+    low == end
+}
+
+fn is_flag(b: u8) -> bool
+    ensures { λ r. ⌜ r ≡ flagged b ⌝ }
+{
+    if b == 70 {
+        return true;
+    }
+    b == 67
+}
+
+fn mode(b: u8) -> Start
+    ensures { λ r. ⌜ r ≡ modeOf b ⌝ }
+{
+    if b == 70 {
+        return Start::Flat;
+    }
+    Start::Case
+}
+
+// Whether the 38 bytes from t on are a trailer.
+fn trailer(s: &[u8], t: usize) -> bool
+    requires { ⌜ t + 38 ≤ length (now s) ⌝ }
+    ensures { λ r. ⌜ r ≡ trailerOf (now (s .entry)) t ⌝ }
+{
+    if is_flag(s[t]) {
+        if s[t + 37] == 10 {
+            if start_at(s, t + 1) == 0 {
+                return rising(s, t + 1, 6, t);
+            }
+        }
+    }
+    false
+}
+
+// Where a section's number stands, and where the next one's, counted from the trailer's start.
+fn offset(z: rows::Section) -> usize
+    ensures { λ r. ⌜ (r ≡ offsetOf z) × (r ≤ 25) ⌝ }
+{
+    match z {
+        rows::Section::B => 1,
+        rows::Section::R => 7,
+        rows::Section::G => 13,
+        rows::Section::L => 19,
+        rows::Section::Y => 25,
+    }
+}
+
+fn next_offset(z: rows::Section) -> usize
+    ensures { λ r. ⌜ (r ≡ nextOf z) × (r ≤ 31) ⌝ }
+{
+    match z {
+        rows::Section::B => 7,
+        rows::Section::R => 13,
+        rows::Section::G => 19,
+        rows::Section::L => 25,
+        rows::Section::Y => 31,
+    }
+}
+
+// Where a section starts.
+fn start_of(s: &[u8], t: usize, z: rows::Section) -> usize
+    requires { ⌜ t + 38 ≤ length (now s) ⌝ }
+    ensures { λ r. ⌜ r ≡ startOf z (now (s .entry)) t ⌝ }
+{
+    let k = offset(z);
+    start_at(s, t + k)
+}
+
+// Where a section ends: at the next one's start.
+fn end_of(s: &[u8], t: usize, z: rows::Section) -> usize
+    requires { ⌜ t + 38 ≤ length (now s) ⌝ }
+    ensures { λ r. ⌜ r ≡ endOf z (now (s .entry)) t ⌝ }
+{
+    let k = next_offset(z);
+    start_at(s, t + k)
+}
+
+// Where the sections of a good text start, and its trailer.
+fn section_places(s: &[u8]) -> Places
+    requires { ⌜ 38 ≤ length (now s) ⌝ }
+    ensures { λ r. ⌜ r ≡ placesOf (now (s .entry)) (length (now (s .entry)) - 38) ⌝ }
+{
+    let t = s.len() - 38;
+    Places {
+        b: start_of(s, t, rows::Section::B),
+        r: start_of(s, t, rows::Section::R),
+        g: start_of(s, t, rows::Section::G),
+        l: start_of(s, t, rows::Section::L),
+        y: start_of(s, t, rows::Section::Y),
+        t: end_of(s, t, rows::Section::Y),
+    }
+}
+
+fn check_part(s: &[u8], t: usize, z: rows::Section) -> rows::Check
+    requires { ⌜ (t + 38 ≤ length (now s)) × (trailerOf (now s) t ≡ true) ⌝ }
+    ensures { λ r. ⌜ r ≡ partOf z (now (s .entry)) t ⌝ }
+{
+    rows::check_section(s, start_of(s, t, z), end_of(s, t, z), z)
+}
+
+// What a section's refusal is of the text.
+fn refused(v: rows::Check) -> Reading
+    ensures { λ r. ⌜ r ≡ refusedOf v ⌝ }
+{
+    match v {
+        rows::Check::Good(_) => Reading::Short,
+        rows::Check::Rows(at) => Reading::Rows(at),
+        rows::Check::Form(at) => Reading::Form(at),
+        rows::Check::Field(at) => Reading::Field(at),
+    }
+}
+
+// The sections in turn.
+fn body(s: &[u8], t: usize) -> Reading
+    requires { ⌜ (t + 38 ≤ length (now s)) × (trailerOf (now s) t ≡ true) ⌝ }
+    ensures { λ r. ⌜ r ≡ bodyOf (now (s .entry)) t ⌝ }
+{
+    let vb = check_part(s, t, rows::Section::B);
+    let rows::Check::Good(nb) = vb else {
+        return refused(vb);
+    };
+    let vr = check_part(s, t, rows::Section::R);
+    let rows::Check::Good(nr) = vr else {
+        return refused(vr);
+    };
+    let vg = check_part(s, t, rows::Section::G);
+    let rows::Check::Good(ng) = vg else {
+        return refused(vg);
+    };
+    let vl = check_part(s, t, rows::Section::L);
+    let rows::Check::Good(nl) = vl else {
+        return refused(vl);
+    };
+    let vy = check_part(s, t, rows::Section::Y);
+    let rows::Check::Good(ny) = vy else {
+        return refused(vy);
+    };
+    Reading::Good(Tables {
+        start: mode(s[t]),
+        buses: nb,
+        slacks: nr,
+        generators: ng,
+        branches: nl,
+        triplets: ny,
+    })
+}
+
+// The whole text: all that is checked before the columns are looked at.
+fn check_text(s: &[u8]) -> Reading
+    ensures { λ r. ⌜ r ≡ textOf (now (s .entry)) ⌝ }
+{
+    let n = s.len();
+    if n < 38 {
+        return Reading::Length(n);
+    }
+    if 32768 < n {
+        return Reading::Length(32768);
+    }
+    let t = n - 38;
+    if !trailer(s, t) {
+        return Reading::Trailer(t);
+    }
+    let p = stranger(s, t);
+    if p < t {
+        return Reading::Byte(p);
+    }
+    body(s, t)
+}
+
+fn least(a: usize, b: usize) -> usize
+    ensures { λ r. ⌜ r ≡ min a b ⌝ }
+{
+    if a < b { a } else { b }
+}
+
+fn least4(a: usize, b: usize, c: usize, d: usize) -> usize
+    ensures { λ r. ⌜ r ≡ min (min a b) (min c d) ⌝ }
+{
+    least(least(a, b), least(c, d))
+}
+
+fn least8(a: usize, b: usize, c: usize, d: usize, e: usize, f: usize, g: usize, h: usize) -> usize
+    ensures { λ r. ⌜ r ≡ min (min (min a b) (min c d)) (min (min e f) (min g h)) ⌝ }
+{
+    least(least4(a, b, c, d), least4(e, f, g, h))
+}
+
+// Whether each table's rows fit its shortest column.
+fn fits(c: Tables, room: Room) -> bool
+    ensures { λ r. ⌜ r ≡ fitsOf c room ⌝ }
+{
+    if room.buses < c.buses {
+        return false;
+    }
+    if room.slacks < c.slacks {
+        return false;
+    }
+    if room.generators < c.generators {
+        return false;
+    }
+    if room.branches < c.branches {
+        return false;
+    }
+    c.triplets <= room.triplets
+}
+
+// The answer: the whole text, and then refusal 9.
+fn judge(s: &[u8], room: Room) -> Reading
+    ensures { λ r. ⌜ r ≡ judgedOf (now (s .entry)) room ⌝ }
+{
+    let v = check_text(s);
+    let Reading::Good(c) = v else {
+        return v;
+    };
+    if fits(c, room) {
+        return v;
+    }
+    Reading::Short
+}
+
+// Reads a case text: all 19 columns where it is good, one place per row, and none of them where it is refused.
+pub fn read_case(
+    text: &[u8],
+    kind: &mut [u8],
+    vm_set: &mut [f64],
+    pd: &mut [f64],
+    qd: &mut [f64],
+    pg: &mut [f64],
+    qg: &mut [f64],
+    vm_case: &mut [f64],
+    va_case: &mut [f64],
+    slacks: &mut [usize],
+    va_slacks: &mut [f64],
+    gen_bus: &mut [usize],
+    qmin: &mut [f64],
+    qmax: &mut [f64],
+    br_from: &mut [usize],
+    br_to: &mut [usize],
+    y_row: &mut [usize],
+    y_col: &mut [usize],
+    y_re: &mut [f64],
+    y_im: &mut [f64],
+) -> Reading
+    ensures { λ r. ⌜ outcome (paperOf r) (columns (now (kind .exit)) (now («vm_set» .exit)) (now (pd .exit)) (now (qd .exit)) (now (pg .exit)) (now (qg .exit)) (now («vm_case» .exit)) (now («va_case» .exit)) (now (slacks .exit)) (now («va_slacks» .exit)) (now («gen_bus» .exit)) (now (qmin .exit)) (now (qmax .exit)) (now («br_from» .exit)) (now («br_to» .exit)) (now («y_row» .exit)) (now («y_col» .exit)) (now («y_re» .exit)) (now («y_im» .exit)))
+        ≡ readOf (now (text .entry)) (columns (now (kind .entry)) (now («vm_set» .entry)) (now (pd .entry)) (now (qd .entry)) (now (pg .entry)) (now (qg .entry)) (now («vm_case» .entry)) (now («va_case» .entry)) (now (slacks .entry)) (now («va_slacks» .entry)) (now («gen_bus» .entry)) (now (qmin .entry)) (now (qmax .entry)) (now («br_from» .entry)) (now («br_to» .entry)) (now («y_row» .entry)) (now («y_col» .entry)) (now («y_re» .entry)) (now («y_im» .entry))) ⌝ }
+{
+    let room = Room {
+        buses: least8(
+            kind.len(),
+            vm_set.len(),
+            pd.len(),
+            qd.len(),
+            pg.len(),
+            qg.len(),
+            vm_case.len(),
+            va_case.len(),
+        ),
+        slacks: least(slacks.len(), va_slacks.len()),
+        generators: least(least(gen_bus.len(), qmin.len()), qmax.len()),
+        branches: least(br_from.len(), br_to.len()),
+        triplets: least4(y_row.len(), y_col.len(), y_re.len(), y_im.len()),
+    };
+    let v = judge(text, room);
+    let Reading::Good(_) = v else {
+        return v;
+    };
+    let p = section_places(text);
+    let r = p.r;
+    let g = p.g;
+    let l = p.l;
+    columns::fill_buses(text, p.b, r, kind, vm_set, pd, qd, pg, qg, vm_case, va_case);
+    columns::fill_sources(text, r, g, l, slacks, va_slacks, gen_bus, qmin, qmax);
+    columns::fill_lines(text, l, p.y, p.t, br_from, br_to, y_row, y_col, y_re, y_im);
+    v
+}

@@ -1,0 +1,87 @@
+-- A line's field by its number; a column's turns, for any kind of element; and that a field read as a real or `?` is the real, where it is one.
+-- Assumes nothing.
+use mathlib.Core.Path.{_≡_, refl, sym, _∙_}
+use mathlib.Core.Bool.{true, false, and-false}
+use mathlib.Core.Logic.{⊎-elim}
+use mathlib.Core.List.{List, [], _∷_}
+use Prim.Native.Nat.{ℕ, zero, suc, _+_, _-_, _≤_, _<_}
+use native.Mathlib.Omega.{arith}
+use native.Mathlib.Numerals.{add-one}
+use lib.Dec.{eqb}
+use lib.ListN.{length, getD, set, length-set}
+use lib.Seq.{slice, sets}
+use borrow.Author.Tests.{eqb-true}
+use Rattle.fields.specs.Cut.{only, has, pieces, Found}
+use Rattle.fields.specs.Cut.Laws.{decided, true-false, and-left}
+use Rattle.fields.specs.Digits.{digits}
+use Rattle.fields.specs.Real.{amountOf, realOf, orNanOf, isReal}
+use Rattle.rows.specs.Line.Laws.{below-or}
+use Rattle.rows.specs.Rows.Laws.{rows-more, rows-room, rows-last, rows-end}
+use Rattle.columns.specs.Columns.{rowCount, columnOf, filled}
+
+-- ---- a field by its number
+
+getD-past : (x : List ℕ) (k : ℕ) → (k ≡ 0 → ⊥) → getD (x ∷ []) k [] ≡ []
+getD-past x zero h = absurd (h refl)
+getD-past x (suc k) h = refl
+
+getD-on : (x : List ℕ) (xs : List (List ℕ)) (k : ℕ) → (k ≡ 0 → ⊥) → getD (x ∷ xs) k [] ≡ getD xs (k - 1) []
+getD-on x xs zero h = absurd (h refl)
+getD-on x xs (suc k) h = let q : suc k - 1 ≡ k = omega arith in rw q
+
+module _ (s : List ℕ) (i e q k : ℕ) (f : Found s i e 32 q) where
+  pub piece-here : k ≡ 0 → getD (pieces 32 (slice i e s)) k [] ≡ slice i q s
+  piece-here g = ⊎-elim (λ w. rw (f .more w, g)) (λ w. rw (f .last w, g)) (below-or q e)
+
+  pub piece-past : (k ≡ 0 → ⊥) → e ≤ q → getD (pieces 32 (slice i e s)) k [] ≡ []
+  piece-past g w = rw (f .last w) (getD-past (slice i q s) k g)
+
+  pub piece-on : (k ≡ 0 → ⊥) → q < e → getD (pieces 32 (slice i e s)) k [] ≡ getD (pieces 32 (slice (q + 1) e s)) (k - 1) []
+  piece-on g w = rw (f .more w) (getD-on (slice i q s) (pieces 32 (slice (q + 1) e s)) k g)
+
+-- ---- a column under way, for any kind of element: r rows are written, and the bytes from i up to e are left
+
+pub record Filling {A : Type 0} (g : List ℕ → A) (s : List ℕ) (a e : ℕ) (old : List A) (i r : ℕ) (out : List A) : Type 0 where
+  pub within : i ≤ e
+  pub long : length out ≡ length old
+  pub room : r + rowCount (slice i e s) ≤ length out
+  pub same : sets out r (columnOf g (slice i e s)) ≡ filled g (slice a e s) old
+
+module _ {A : Type 0} (g : List ℕ → A) (s : List ℕ) (a e : ℕ) (old : List A) where
+  pub fill-starts : a ≤ e → rowCount (slice a e s) ≤ length old → Filling g s a e old a 0 old
+  fill-starts h k = record { within = h; long = refl; room = omega arith; same = refl }
+
+  module _ (i r : ℕ) (out : List A) (w : Filling g s a e old i r out) where
+    pub fill-ends : i ≡ e → out ≡ filled g (slice a e s) old
+    fill-ends q = rw (rows-end s i e q) at (w .same)
+
+    module _ (p : ℕ) (f : Found s i e 10 p) where
+      pub fill-stops : e ≤ p → out ≡ filled g (slice a e s) old
+      fill-stops q = rw (rows-last s i e p f q) at (w .same)
+
+      module _ (q : p < e) where
+        -- the row fits, and those after it
+        pub fill-room : r + 1 + rowCount (slice (p + 1) e s) ≤ length out
+        fill-room = rows-room s i e p f r (length out) q (w .room)
+
+        column-on : (v : A) → v ≡ g (slice i p s) → sets out r (columnOf g (slice i e s)) ≡ sets (set out r v) (r + 1) (columnOf g (slice (p + 1) e s))
+        column-on v t = rw (rows-more s i e p f q, add-one r, t)
+
+        pub fill-turn : (v : A) → v ≡ g (slice i p s) → Filling g s a e old (p + 1) (r + 1) (set out r v)
+        fill-turn v t = record {
+          within = omega arith;
+          long = simp length-set (w .long);
+          room = simp length-set fill-room;
+          same = sym (column-on v t) ∙ w .same;
+        }
+
+-- ---- `?` is no real
+
+mark-wrong : (l : List ℕ) → only 63 l ≡ true → isReal (realOf l) ≡ false
+unfolding has digits amountOf
+mark-wrong [] h = absurd (true-false h refl)
+mark-wrong (b ∷ []) h = rw (eqb-true b 63 (and-left _ _ h))
+mark-wrong (b ∷ c ∷ r) h = absurd (true-false h (and-false (eqb b 63)))
+
+pub plain-value : (l : List ℕ) → isReal (realOf l) ≡ true → orNanOf l ≡ realOf l
+plain-value l h = ⊎-elim (λ q. absurd (true-false h (mark-wrong l q))) (λ q. rw q) (decided (only 63 l))

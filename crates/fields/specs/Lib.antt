@@ -1,0 +1,3 @@
+pub mod Cut
+pub mod Digits
+pub mod Real

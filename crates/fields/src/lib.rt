@@ -1,0 +1,243 @@
+// The fields of a case text: a bus number, a real, and `?` for NaN. Each function reads the field that stands from a up to e.
+ghost use mathlib.Core.Path.{_≡_};
+ghost use Prim.Native.Nat.{_+_, _-_, _*_, _^_, _<_, _≤_};
+ghost use lib.ListN.{length};
+ghost use lib.IntN.{pos};
+ghost use lib.Ieee.{binary64, ofInt, div};
+ghost use lib.Seq.{slice};
+ghost use Rattle.fields.specs.Cut.{Found, only};
+ghost use Rattle.fields.specs.Digits.{digitsOf, busOf, isNumber, numberIn};
+ghost use Rattle.fields.specs.Real.{allowed, amountOf, unsignedOf, negatedOf, realOf, orNanOf, isReal, realIn};
+
+// A field read as a real.
+pub enum Real {
+    Value(f64),
+    Wrong,
+}
+
+// A run of digits read as a whole number.
+pub enum Digits {
+    Number(usize),
+    Other,
+}
+
+// The place of the first x from a up to e, or e.
+pub fn find(s: &[u8], a: usize, e: usize, x: u8) -> usize
+    requires { ⌜ (a ≤ e) × (e ≤ length (now s)) ⌝ }
+    ensures { λ r. ⌜ Found (now (s .entry)) a e x r ⌝ }
+{
+    let mut i = a;
+    while i < e {
+        if s[i] == x {
+            return i;
+        }
+        i += 1;
+    }
+    i
+}
+
+// Whether the one byte x stands there.
+pub fn is_byte(s: &[u8], a: usize, e: usize, x: u8) -> bool
+    requires { ⌜ (a ≤ e) × (e ≤ length (now s)) ⌝ }
+    ensures { λ r. ⌜ r ≡ only x (slice a e (now (s .entry))) ⌝ }
+{
+    if a < e {
+        if a + 1 < e {
+            return false;
+        }
+        return s[a] == x;
+    }
+    false
+}
+
+// The digits as a whole number, after those that gave `from`. There are few enough that it stays below 10^15.
+pub fn whole(s: &[u8], a: usize, e: usize, from: usize) -> Digits
+    requires { ⌜ (a ≤ e) × (e ≤ length (now s)) ⌝ }
+    requires { ⌜ (from + 1) * 10 ^ (e - a) ≤ 10 ^ 15 ⌝ }
+    ensures { λ r. ⌜ r ≡ digitsOf from (slice a e (now (s .entry))) ⌝ }
+{
+    let mut m = from;
+    let mut i = a;
+    while i < e {
+        let b = s[i];
+        if b < 48 {
+            return Digits::Other;
+        }
+        if 57 < b {
+            return Digits::Other;
+        }
+        m = m * 10 + ((b - 48) as usize);
+        i += 1;
+    }
+    Digits::Number(m)
+}
+
+pub fn read_bus(s: &[u8], a: usize, e: usize) -> Digits
+    requires { ⌜ (a ≤ e) × (e ≤ length (now s)) ⌝ }
+    ensures { λ r. ⌜ r ≡ busOf (slice a e (now (s .entry))) ⌝ }
+{
+    if a == e {
+        return Digits::Other;
+    }
+    if 3 < e - a {
+        return Digits::Other;
+    }
+    if s[a] == 48 {
+        if a + 1 < e {
+            return Digits::Other;
+        }
+        return whole(s, a, e, 0);
+    }
+    whole(s, a, e, 0)
+}
+
+const TEN: [f64; 16] = [
+    1.0,
+    10.0,
+    100.0,
+    1000.0,
+    10000.0,
+    100000.0,
+    1000000.0,
+    10000000.0,
+    100000000.0,
+    1000000000.0,
+    10000000000.0,
+    100000000000.0,
+    1000000000000.0,
+    10000000000000.0,
+    100000000000000.0,
+    1000000000000000.0,
+];
+
+// The power of ten of k decimals. The only place that knows of the table.
+fn ten(k: usize) -> f64
+    requires { ⌜ k < 16 ⌝ }
+    ensures { λ r. ⌜ r ≡ ofInt binary64 (pos (10 ^ k)) ⌝ }
+{
+    TEN[k]
+}
+
+// m divided once by the power of ten of k decimals.
+fn scaled(m: usize, k: usize) -> f64
+    requires { ⌜ (m < 10 ^ 15) × (k < 16) ⌝ }
+    ensures { λ r. ⌜ r ≡ div binary64 (ofInt binary64 (pos m)) (ofInt binary64 (pos (10 ^ k))) ⌝ }
+{
+    (m as f64) / ten(k)
+}
+
+// Whether the digits from a up to b, with as decimals those from c up to e, are few enough. The only place that counts them.
+fn few(s: &[u8], a: usize, b: usize, c: usize, e: usize) -> bool
+    requires { ⌜ (a ≤ b) × (b ≤ length (now s)) ⌝ }
+    requires { ⌜ (c ≤ e) × (e ≤ length (now s)) ⌝ }
+    ensures { λ r. ⌜ r ≡ allowed (slice a b (now (s .entry))) (slice c e (now (s .entry))) ⌝ }
+{
+    (b - a) + (e - c) <= 15
+}
+
+// The digits from a up to b, and as decimals those from c up to e.
+fn amount(s: &[u8], a: usize, b: usize, c: usize, e: usize) -> Real
+    requires { ⌜ (a ≤ b) × (b ≤ length (now s)) ⌝ }
+    requires { ⌜ (c ≤ e) × (e ≤ length (now s)) ⌝ }
+    ensures { λ r. ⌜ r ≡ amountOf (slice a b (now (s .entry))) (slice c e (now (s .entry))) ⌝ }
+{
+    if a == b {
+        return Real::Wrong;
+    }
+    if !few(s, a, b, c, e) {
+        return Real::Wrong;
+    }
+    let Digits::Number(w) = whole(s, a, b, 0) else {
+        return Real::Wrong;
+    };
+    let Digits::Number(m) = whole(s, c, e, w) else {
+        return Real::Wrong;
+    };
+    Real::Value(scaled(m, e - c))
+}
+
+// A real with no minus.
+fn unsigned(s: &[u8], a: usize, e: usize) -> Real
+    requires { ⌜ (a ≤ e) × (e ≤ length (now s)) ⌝ }
+    ensures { λ r. ⌜ r ≡ unsignedOf (slice a e (now (s .entry))) ⌝ }
+{
+    let p = find(s, a, e, 46);
+    if p < e {
+        if p + 1 == e {
+            return Real::Wrong;
+        }
+        return amount(s, a, p, p + 1, e);
+    }
+    amount(s, a, e, e, e)
+}
+
+fn negated(r: Real) -> Real
+    ensures { λ x. ⌜ x ≡ negatedOf r ⌝ }
+{
+    match r {
+        Real::Value(x) => Real::Value(-x),
+        Real::Wrong => Real::Wrong,
+    }
+}
+
+pub fn read_real(s: &[u8], a: usize, e: usize) -> Real
+    requires { ⌜ (a ≤ e) × (e ≤ length (now s)) ⌝ }
+    ensures { λ r. ⌜ r ≡ realOf (slice a e (now (s .entry))) ⌝ }
+{
+    if a == e {
+        return Real::Wrong;
+    }
+    if s[a] == 45 {
+        return negated(unsigned(s, a + 1, e));
+    }
+    unsigned(s, a, e)
+}
+
+// A real, or `?` for NaN.
+pub fn real_or_nan(s: &[u8], a: usize, e: usize) -> Real
+    requires { ⌜ (a ≤ e) × (e ≤ length (now s)) ⌝ }
+    ensures { λ r. ⌜ r ≡ orNanOf (slice a e (now (s .entry))) ⌝ }
+{
+    if is_byte(s, a, e, 63) {
+        return Real::Value(0.0 / 0.0);
+    }
+    read_real(s, a, e)
+}
+
+pub fn is_real(r: Real) -> bool
+    ensures { λ x. ⌜ x ≡ isReal r ⌝ }
+{
+    match r {
+        Real::Value(_) => true,
+        Real::Wrong => false,
+    }
+}
+
+pub fn is_number(r: Digits) -> bool
+    ensures { λ x. ⌜ x ≡ isNumber r ⌝ }
+{
+    match r {
+        Digits::Number(_) => true,
+        Digits::Other => false,
+    }
+}
+
+// The value of a field that was found good.
+pub fn real_in(r: Real) -> f64
+    ensures { λ x. ⌜ x ≡ realIn r ⌝ }
+{
+    match r {
+        Real::Value(x) => x,
+        Real::Wrong => 0.0,
+    }
+}
+
+// The number of a field that was found good.
+pub fn number_in(r: Digits) -> usize
+    ensures { λ x. ⌜ x ≡ numberIn r ⌝ }
+{
+    match r {
+        Digits::Number(n) => n,
+        Digits::Other => 0,
+    }
+}

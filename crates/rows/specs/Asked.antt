@@ -1,0 +1,52 @@
+-- What 01 asks of each section: its letter, its fields, its table's size. A section more is a clause more in each of these.
+use Prim.Native.Nat.{ℕ}
+use mathlib.Core.Bool.{Bool, cond, _||_}
+use mathlib.Core.List.{List}
+use lib.Dec.{eqb, leb}
+use Rattle.fields.specs.Cut.{only}
+use Rattle.fields.specs.Digits.{busOf, isNumber}
+use Rattle.fields.specs.Real.{realOf, orNanOf, isReal}
+use Rattle.rows.specs.declared.Section.{Section}
+use Rattle.rows.specs.declared.Section.the-variants as Section
+use Rattle.rows.specs.declared.Want.{Want}
+use Rattle.rows.specs.declared.Want.the-variants as Want
+
+-- the letters B, R, G, L, Y
+abbrev pub letterOf : Section → ℕ
+letterOf Section.B = 66
+letterOf Section.R = 82
+letterOf Section.G = 71
+letterOf Section.L = 76
+letterOf Section.Y = 89
+
+-- "the named number of fields"
+abbrev pub countOf : Section → ℕ
+countOf Section.B = 8
+countOf Section.R = 2
+countOf Section.G = 3
+countOf Section.L = 2
+countOf Section.Y = 4
+
+-- "Buses 0 to 32, slack rows 0 to 32, generators 0 to 32, branches 0 to 64, triplets 0 to 256"
+abbrev pub sizeOf : Section → ℕ
+sizeOf Section.B = 32
+sizeOf Section.R = 32
+sizeOf Section.G = 32
+sizeOf Section.L = 64
+sizeOf Section.Y = 256
+
+-- what field j holds, counted from 0: `B kind vm_set pd qd pg qg vm_case va_case`, `R bus angle`, `G bus qmin qmax`, `L from to`,
+-- `Y row col re im`; "`?` .. is allowed only for vm_case and va_case". Past the last field it does not matter
+abbrev pub wantOf : Section → ℕ → Want
+wantOf Section.B j = cond (eqb j 0) Want.Kind (cond (leb 6 j) Want.Stored Want.Plain)
+wantOf Section.R j = cond (eqb j 0) Want.Bus Want.Plain
+wantOf Section.G j = cond (eqb j 0) Want.Bus Want.Plain
+wantOf Section.L j = Want.Bus
+wantOf Section.Y j = cond (leb 2 j) Want.Plain Want.Bus
+
+-- whether a field is what is asked; "kind V (PV) or Q"
+abbrev pub goodOf : Want → List ℕ → Bool
+goodOf Want.Plain f = isReal (realOf f)
+goodOf Want.Stored f = isReal (orNanOf f)
+goodOf Want.Bus f = isNumber (busOf f)
+goodOf Want.Kind f = only 86 f || only 81 f

@@ -1,0 +1,4 @@
+pub mod Asked
+pub mod Line
+pub mod Rows
+pub mod Printed

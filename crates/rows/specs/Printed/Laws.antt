@@ -1,0 +1,188 @@
+-- No byte of an accepted section is skipped: it is its rows, printed; what it answers is how many they are; and each field is good.
+-- Assumes nothing.
+use mathlib.Core.Path.{_≡_, refl, sym, ap, _∙_}
+use mathlib.Core.Bool.{Bool, true, false, cond, and-false}
+use mathlib.Core.Logic.{⊎-elim}
+use mathlib.Core.List.{List, [], _∷_, _++_, map}
+use Prim.Native.Nat.{ℕ, zero, suc, _+_, _<_}
+use native.Mathlib.Omega.{arith}
+use native.Mathlib.Nat.{not-suc-le-zero, le-of-suc-le-suc, add-zero, zero-add}
+use lib.Dec.{eqb, leb}
+use lib.ListN.{length, getD}
+use borrow.Author.Tests.{eqb-true}
+use Rattle.fields.specs.Cut.{empty, only, pieces, onto}
+use Rattle.fields.specs.Cut.Laws.{decided, true-false, and-left, and-right}
+use Rattle.rows.specs.Asked.{letterOf, countOf, sizeOf, wantOf, goodOf}
+use Rattle.rows.specs.Line.{allSome, formOf, fieldsOf, lineOf, tail}
+use Rattle.rows.specs.Rows.{none, after, sectionOf, checkOf, ended, rowsOf}
+use Rattle.rows.specs.Rows.Laws.{pieces-some}
+use Rattle.rows.specs.Printed.{spread, fieldsIn, tableOf, printed}
+use Rattle.rows.specs.declared.Section.{Section}
+use Rattle.rows.specs.declared.Check.{Check}
+use Rattle.rows.specs.declared.Check.the-variants as Check
+
+-- ---- the pieces between the x's, and the x's, are the list
+
+abbrev join : ℕ → List (List ℕ) → List ℕ
+join x [] = []
+join x (p ∷ ps) = p ++ spread x ps
+
+join-onto : (x b : ℕ) (ps : List (List ℕ)) → join x (onto b ps) ≡ b ∷ join x ps
+unfolding spread
+join-onto x b [] = refl
+join-onto x b (p ∷ ps) = refl
+
+open-join : (x : ℕ) (ps : List (List ℕ)) → none ps ≡ false → spread x ps ≡ x ∷ join x ps
+unfolding spread
+open-join x [] h = absurd (true-false refl h)
+open-join x (p ∷ ps) h = refl
+
+join-pieces : (x : ℕ) (l : List ℕ) → join x (pieces x l) ≡ l
+unfolding pieces spread
+join-pieces x [] = refl
+join-pieces x (b ∷ r) =
+    ⊎-elim
+    (λ p. rw p (open-join x (pieces x r) (pieces-some x r) ∙ rw (join-pieces x r, eqb-true b x p)))
+    (λ p. rw p (join-onto x b (pieces x r) ∙ ap (λ (m : List ℕ). b ∷ m) (join-pieces x r)))
+    (decided (eqb b x))
+
+-- ---- a line
+
+only-is : (x : ℕ) (l : List ℕ) → only x l ≡ true → l ≡ x ∷ []
+only-is x [] h = absurd (true-false h refl)
+only-is x (b ∷ []) h = rw (eqb-true b x (and-left _ _ h))
+only-is x (b ∷ c ∷ r) h = absurd (true-false h (and-false (eqb b x)))
+
+formed : (t : Section) (ps : List (List ℕ)) → formOf t ps ≡ true → join 32 ps ≡ letterOf t ∷ spread 32 (tail ps)
+formed t [] h = absurd (true-false h refl)
+formed t (f ∷ fs) h = rw (only-is (letterOf t) f (and-left _ _ h))
+
+-- a line whose form is good is its letter and its fields, one space before each
+pub line-printed : (t : Section) (l : List ℕ) → formOf t (pieces 32 l) ≡ true → l ≡ letterOf t ∷ spread 32 (fieldsIn l)
+line-printed t l h = sym (join-pieces 32 l) ∙ formed t (pieces 32 l) h
+
+-- ---- what a good answer says of the tests on the way
+
+never : {A : Type 0} (v : Check) (n : ℕ) → v ≡ Check.Good n → (after v (Check.Rows 0) ≡ v) → A
+never (Check.Good n) k p q = absurd (let z : _≡_ {A = ℕ} 0 1 = cc in omega arith)
+never (Check.Rows n) k p q = absurd (let z : _≡_ {A = ℕ} 0 1 = cc in omega arith)
+never (Check.Form n) k p q = absurd (let z : _≡_ {A = ℕ} 0 1 = cc in omega arith)
+never (Check.Field n) k p q = absurd (let z : _≡_ {A = ℕ} 0 1 = cc in omega arith)
+
+after-rest : (v w : Check) (n : ℕ) → after v w ≡ Check.Good n → w ≡ Check.Good n
+after-rest (Check.Good k) w n h = h
+after-rest (Check.Rows k) w n h = never (Check.Rows k) n h refl
+after-rest (Check.Form k) w n h = never (Check.Form k) n h refl
+after-rest (Check.Field k) w n h = never (Check.Field k) n h refl
+
+line-form : (t : Section) (at : ℕ) (l : List ℕ) (w : Check) (n : ℕ) → after (lineOf t at l) w ≡ Check.Good n → formOf t (pieces 32 l) ≡ true
+line-form t at l w n h =
+    ⊎-elim (λ p. p) (λ p. never (Check.Form at) n (rw p at h) refl) (decided (formOf t (pieces 32 l)))
+
+empty-is : (l : List ℕ) → empty l ≡ true → l ≡ []
+empty-is [] h = refl
+empty-is (b ∷ r) h = absurd (true-false h refl)
+
+neither : {A : Type 0} (b : Bool) (at n : ℕ) → cond b (Check.Rows at) (Check.Form at) ≡ Check.Good n → A
+neither true at n h = never (Check.Rows at) n h refl
+neither false at n h = never (Check.Form at) n h refl
+
+-- ---- a section
+
+lines-printed : (t : Section) (r at : ℕ) (ps : List (List ℕ)) (n : ℕ) → none ps ≡ false → sectionOf t r at ps ≡ Check.Good n
+    → join 10 ps ≡ printed t (map fieldsIn (ended ps))
+unfolding sectionOf ended printed spread
+lines-printed t r at [] n g h = absurd (true-false refl g)
+lines-printed t r at (l ∷ []) n g h =
+    ⊎-elim (λ p. rw (empty-is l p))
+    (λ p. neither (leb (sizeOf t) r) at n (rw p at h))
+    (decided (empty l))
+lines-printed t r at (l ∷ m ∷ ms) n g h =
+    let k = rw (and-false (empty l)) at h in
+    ⊎-elim (λ q. never (Check.Rows at) n (rw q at k) refl)
+    (λ q. let v = rw q at k in
+    ap (λ (x : List ℕ). x ++ (10 ∷ join 10 (m ∷ ms))) (line-printed t l (line-form t at l _ n v))
+    ∙ ap (λ (x : List ℕ). letterOf t ∷ (spread 32 (fieldsIn l) ++ (10 ∷ x)))
+    (lines-printed t (r + 1) (at + length l + 1) (m ∷ ms) n refl (after-rest (lineOf t at l) _ n v)))
+    (decided (leb (sizeOf t) r))
+
+-- an accepted section is its rows, printed
+pub section-printed : (t : Section) (at : ℕ) (l : List ℕ) (n : ℕ) → checkOf t at l ≡ Check.Good n → l ≡ printed t (tableOf l)
+section-printed t at l n h = sym (join-pieces 10 l) ∙ lines-printed t 0 at (pieces 10 l) n (pieces-some 10 l) h
+
+good-is : (m n : ℕ) → Check.Good m ≡ Check.Good n → n ≡ m
+good-is m n h = cc
+
+lines-count : (t : Section) (r at : ℕ) (ps : List (List ℕ)) (n : ℕ) → none ps ≡ false → sectionOf t r at ps ≡ Check.Good n → n ≡ r + length (ended ps)
+unfolding sectionOf ended
+lines-count t r at [] n g h = absurd (true-false refl g)
+lines-count t r at (l ∷ []) n g h =
+    ⊎-elim (λ p. let e = good-is r n (rw p at h) in omega arith) (λ p. neither (leb (sizeOf t) r) at n (rw p at h)) (decided (empty l))
+lines-count t r at (l ∷ m ∷ ms) n g h =
+    let k = rw (and-false (empty l)) at h in
+    ⊎-elim (λ q. never (Check.Rows at) n (rw q at k) refl)
+    (λ q. let e = lines-count t (r + 1) (at + length l + 1) (m ∷ ms) n refl (after-rest (lineOf t at l) _ n (rw q at k)) in omega arith)
+    (decided (leb (sizeOf t) r))
+
+-- what an accepted section answers is the number of its rows
+pub section-rows : (t : Section) (at : ℕ) (l : List ℕ) (n : ℕ) → checkOf t at l ≡ Check.Good n → n ≡ length (rowsOf l)
+section-rows t at l n h = let e = lines-count t 0 at (pieces 10 l) n (pieces-some 10 l) h in omega arith
+
+-- ---- every field of an accepted section is good
+
+-- a row has its section's fields, each of them what is asked
+pub record Sound (t : Section) (fs : List (List ℕ)) : Type 0 where
+  pub count : length fs ≡ countOf t
+  pub good : (j : ℕ) → j < length fs → goodOf (wantOf t j) (getD fs j []) ≡ true
+
+fields-good : (t : Section) (j at n : ℕ) (fs : List (List ℕ)) → fieldsOf t j at fs ≡ Check.Good n → (i : ℕ) → i < length fs
+    → goodOf (wantOf t (j + i)) (getD fs i []) ≡ true
+unfolding fieldsOf
+fields-good t j at n [] h i k = absurd (not-suc-le-zero k)
+fields-good t j at n (f ∷ fs) h zero k =
+    ⊎-elim (λ q. rw add-zero q) (λ q. never (Check.Field at) n (rw q at h) refl) (decided (goodOf (wantOf t j) f))
+fields-good t j at n (f ∷ fs) h (suc i) k =
+    ⊎-elim
+    (λ q. let e : j + suc i ≡ j + 1 + i = omega arith in rw e (fields-good t (j + 1) (at + length f + 1) n fs (rw q at h) i (le-of-suc-le-suc k)))
+    (λ q. never (Check.Field at) n (rw q at h) refl)
+    (decided (goodOf (wantOf t j) f))
+
+counted : (t : Section) (ps : List (List ℕ)) → formOf t ps ≡ true → length (tail ps) ≡ countOf t
+counted t [] h = absurd (true-false h refl)
+counted t (f ∷ fs) h = rw (zero-add (length fs)) at (eqb-true (0 + length fs) (countOf t) (and-right (allSome fs) _ (and-right (only (letterOf t) f) _ h)))
+
+after-first : (v w : Check) (n : ℕ) → after v w ≡ Check.Good n → (m : ℕ) × (v ≡ Check.Good m)
+after-first (Check.Good k) w n h = (k, refl)
+after-first (Check.Rows k) w n h = never (Check.Rows k) n h refl
+after-first (Check.Form k) w n h = never (Check.Form k) n h refl
+after-first (Check.Field k) w n h = never (Check.Field k) n h refl
+
+line-fields : (t : Section) (at n : ℕ) (l : List ℕ) → formOf t (pieces 32 l) ≡ true → lineOf t at l ≡ Check.Good n → fieldsOf t 0 (at + 2) (fieldsIn l) ≡ Check.Good n
+line-fields t at n l g h = rw g at h
+
+line-sound : (t : Section) (at : ℕ) (l : List ℕ) (w : Check) (n : ℕ) → after (lineOf t at l) w ≡ Check.Good n → Sound t (fieldsIn l)
+line-sound t at l w n h =
+    let g = line-form t at l w n h in
+    let m = after-first (lineOf t at l) w n h in
+    record {
+      count = counted t (pieces 32 l) g;
+      good = λ j k. rw (zero-add j) at (fields-good t 0 (at + 2) (m .0) (fieldsIn l) (line-fields t at (m .0) l g (m .1)) j k);
+    }
+
+lines-sound : (t : Section) (r at : ℕ) (ps : List (List ℕ)) (n : ℕ) → sectionOf t r at ps ≡ Check.Good n → (k : ℕ) → k < length (ended ps)
+    → Sound t (getD (map fieldsIn (ended ps)) k [])
+unfolding sectionOf ended
+lines-sound t r at [] n h k i = absurd (not-suc-le-zero i)
+lines-sound t r at (l ∷ []) n h k i = absurd (not-suc-le-zero i)
+lines-sound t r at (l ∷ m ∷ ms) n h zero i =
+    let u = rw (and-false (empty l)) at h in
+    ⊎-elim (λ q. never (Check.Rows at) n (rw q at u) refl) (λ q. line-sound t at l _ n (rw q at u)) (decided (leb (sizeOf t) r))
+lines-sound t r at (l ∷ m ∷ ms) n h (suc k) i =
+    let u = rw (and-false (empty l)) at h in
+    ⊎-elim (λ q. never (Check.Rows at) n (rw q at u) refl)
+    (λ q. lines-sound t (r + 1) (at + length l + 1) (m ∷ ms) n (after-rest (lineOf t at l) _ n (rw q at u)) k (le-of-suc-le-suc i))
+    (decided (leb (sizeOf t) r))
+
+-- row k of an accepted section is sound
+pub section-sound : (t : Section) (at : ℕ) (l : List ℕ) (n : ℕ) → checkOf t at l ≡ Check.Good n → (k : ℕ) → k < length (rowsOf l) → Sound t (getD (tableOf l) k [])
+section-sound t at l n h k i = lines-sound t 0 at (pieces 10 l) n h k i

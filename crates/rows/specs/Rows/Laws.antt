@@ -1,0 +1,82 @@
+-- A section's turns: the search for the next LF gives the next row, of the check and of the rows. Assumes nothing.
+use mathlib.Core.Path.{_≡_, refl, ap, _∙_}
+use mathlib.Core.Bool.{false, and-false}
+use mathlib.Core.Logic.{⊎-elim}
+use mathlib.Core.List.{List, [], _∷_}
+use Prim.Native.Nat.{ℕ, _+_, _≤_, _<_}
+use native.Mathlib.Omega.{arith}
+use lib.Dec.{eqb}
+use lib.ListN.{length}
+use lib.Seq.{slice, length-slice}
+use borrow.Author.Tests.{le-leb, lt-leb}
+use Rattle.fields.specs.Cut.{pieces, onto, Found}
+use Rattle.fields.specs.Cut.Laws.{decided, slice-some, slice-none}
+use Rattle.rows.specs.Asked.{sizeOf}
+use Rattle.rows.specs.Line.{lineOf}
+use Rattle.rows.specs.Line.Laws.{below-or}
+use Rattle.rows.specs.Rows.{none, after, sectionOf, ended, rowsOf}
+use Rattle.rows.specs.declared.Section.{Section}
+use Rattle.rows.specs.declared.Check.{Check}
+use Rattle.rows.specs.declared.Check.the-variants as Check
+
+never-none : (b : ℕ) (ps : List (List ℕ)) → none (onto b ps) ≡ false
+never-none b [] = refl
+never-none b (p ∷ ps) = refl
+
+pub pieces-some : (x : ℕ) (l : List ℕ) → none (pieces x l) ≡ false
+unfolding pieces
+pieces-some x [] = refl
+pieces-some x (b ∷ r) = ⊎-elim (λ p. rw p) (λ p. rw p (never-none b (pieces x r))) (decided (eqb b x))
+
+-- ---- the check from a place before the end on, after r rows
+
+module _ (t : Section) (r : ℕ) (s : List ℕ) (i e p : ℕ) (h : i < e) (k : e ≤ length s) (f : Found s i e 10 p) where
+  pub too-many : sizeOf t ≤ r → sectionOf t r i (pieces 10 (slice i e s)) ≡ Check.Rows i
+  unfolding sectionOf
+  too-many g =
+      ⊎-elim (λ q. rw (f .more q, pieces-some, and-false, le-leb (sizeOf t) r g))
+      (λ q. let u : i < p = omega arith in let w : p ≤ length s = omega (arith, f .high) in rw (f .last q, slice-some s i p u w, le-leb (sizeOf t) r g))
+      (below-or p e)
+
+  pub unended : r < sizeOf t → e ≤ p → sectionOf t r i (pieces 10 (slice i e s)) ≡ Check.Form i
+  unfolding sectionOf
+  unended g q = let w : p ≤ length s = omega (arith, f .high) in rw (f .last q, slice-some s i p (omega arith) w, lt-leb (sizeOf t) r g)
+
+  one-line : r < sizeOf t → p < e
+      → sectionOf t r i (pieces 10 (slice i e s)) ≡ after (lineOf t i (slice i p s)) (sectionOf t (r + 1) (p + 1) (pieces 10 (slice (p + 1) e s)))
+  unfolding sectionOf
+  one-line g q =
+      let w : p ≤ length s = omega (arith, f .high) in
+      let v : i + length (slice i p s) + 1 ≡ p + 1 = omega (arith, length-slice i p s w, f .low) in
+      rw (f .more q, pieces-some, and-false, lt-leb (sizeOf t) r g, v)
+
+  pub line-good : r < sizeOf t → p < e → (v : Check) → v ≡ lineOf t i (slice i p s) → (n : ℕ) → v ≡ Check.Good n
+      → sectionOf t r i (pieces 10 (slice i e s)) ≡ sectionOf t (r + 1) (p + 1) (pieces 10 (slice (p + 1) e s))
+  line-good g q v u n w = one-line g q ∙ rw (← u, w)
+
+  pub line-refused : r < sizeOf t → p < e → (v : Check) → v ≡ lineOf t i (slice i p s) → ((w : Check) → after v w ≡ v)
+      → sectionOf t r i (pieces 10 (slice i e s)) ≡ v
+  line-refused g q v u w = one-line g q ∙ rw (← u) (w _)
+
+pub section-end : (t : Section) (r : ℕ) (s : List ℕ) (i e : ℕ) → i ≡ e → sectionOf t r i (pieces 10 (slice i e s)) ≡ Check.Good r
+unfolding pieces sectionOf
+section-end t r s i e q = rw (slice-none s i e q)
+
+-- ---- the rows from a place on
+
+module _ (s : List ℕ) (i e p : ℕ) (f : Found s i e 10 p) where
+  pub rows-more : p < e → rowsOf (slice i e s) ≡ slice i p s ∷ rowsOf (slice (p + 1) e s)
+  unfolding ended
+  rows-more q = rw (f .more q, pieces-some)
+
+  -- the row fits, and those after it
+  pub rows-room : (r n : ℕ) → p < e → r + length (rowsOf (slice i e s)) ≤ n → r + 1 + length (rowsOf (slice (p + 1) e s)) ≤ n
+  rows-room r n q h = omega (arith, ap length (rows-more q))
+
+  pub rows-last : e ≤ p → rowsOf (slice i e s) ≡ []
+  unfolding ended
+  rows-last q = rw (f .last q)
+
+pub rows-end : (s : List ℕ) (i e : ℕ) → i ≡ e → rowsOf (slice i e s) ≡ []
+unfolding pieces ended
+rows-end s i e q = rw (slice-none s i e q)

@@ -1,0 +1,216 @@
+// The lines of a case text, and its sections. Each function looks at what stands from a up to e.
+ghost use mathlib.Core.Path.{_≡_};
+ghost use Prim.Native.Nat.{_≤_};
+ghost use lib.ListN.{length};
+ghost use lib.Seq.{slice};
+ghost use Rattle.fields.specs.Cut.{pieces};
+ghost use Rattle.rows.specs.Asked.{letterOf, countOf, sizeOf, wantOf, goodOf};
+ghost use Rattle.rows.specs.Line.{spacedOf, formOf, fieldsOf, lineOf};
+ghost use Rattle.rows.specs.Rows.{checkOf};
+
+// The sections of a case text.
+pub enum Section {
+    B,
+    R,
+    G,
+    L,
+    Y,
+}
+
+// What a field holds: a real, a real or `?`, a bus number, a kind.
+pub enum Want {
+    Plain,
+    Stored,
+    Bus,
+    Kind,
+}
+
+// What a check finds: so many good rows, or one of the refusals 6, 4 and 5, each with its place.
+pub enum Check {
+    Good(usize),
+    Rows(usize),
+    Form(usize),
+    Field(usize),
+}
+
+fn letter(t: Section) -> u8
+    ensures { λ r. ⌜ r ≡ letterOf t ⌝ }
+{
+    match t {
+        Section::B => 66,
+        Section::R => 82,
+        Section::G => 71,
+        Section::L => 76,
+        Section::Y => 89,
+    }
+}
+
+fn count(t: Section) -> usize
+    ensures { λ r. ⌜ r ≡ countOf t ⌝ }
+{
+    match t {
+        Section::B => 8,
+        Section::R => 2,
+        Section::G => 3,
+        Section::L => 2,
+        Section::Y => 4,
+    }
+}
+
+fn size(t: Section) -> usize
+    ensures { λ r. ⌜ r ≡ sizeOf t ⌝ }
+{
+    match t {
+        Section::B => 32,
+        Section::R => 32,
+        Section::G => 32,
+        Section::L => 64,
+        Section::Y => 256,
+    }
+}
+
+// What field j holds, counted from 0.
+fn wanted(t: Section, j: usize) -> Want
+    ensures { λ r. ⌜ r ≡ wantOf t j ⌝ }
+{
+    match t {
+        Section::B => {
+            if j == 0 {
+                return Want::Kind;
+            }
+            if 6 <= j {
+                return Want::Stored;
+            }
+            Want::Plain
+        }
+        Section::R => {
+            if j == 0 {
+                return Want::Bus;
+            }
+            Want::Plain
+        }
+        Section::G => {
+            if j == 0 {
+                return Want::Bus;
+            }
+            Want::Plain
+        }
+        Section::L => Want::Bus,
+        Section::Y => {
+            if 2 <= j {
+                return Want::Plain;
+            }
+            Want::Bus
+        }
+    }
+}
+
+// Whether the field is what w asks.
+fn good(s: &[u8], a: usize, e: usize, w: Want) -> bool
+    requires { ⌜ (a ≤ e) × (e ≤ length (now s)) ⌝ }
+    ensures { λ r. ⌜ r ≡ goodOf w (slice a e (now (s .entry))) ⌝ }
+{
+    match w {
+        Want::Plain => fields::is_real(fields::read_real(s, a, e)),
+        Want::Stored => fields::is_real(fields::real_or_nan(s, a, e)),
+        Want::Bus => fields::is_number(fields::read_bus(s, a, e)),
+        Want::Kind => {
+            if fields::is_byte(s, a, e, 86) {
+                return true;
+            }
+            fields::is_byte(s, a, e, 81)
+        }
+    }
+}
+
+// Whether n fields stand there, none empty, with one space between.
+fn spaced(s: &[u8], a: usize, e: usize, n: usize) -> bool
+    requires { ⌜ (a ≤ e) × (e ≤ length (now s)) ⌝ }
+    ensures { λ r. ⌜ r ≡ spacedOf 0 n (pieces 32 (slice a e (now (s .entry)))) ⌝ }
+{
+    let mut i = a;
+    let mut k: usize = 0;
+    loop {
+        let q = fields::find(s, i, e, 32);
+        if q == i {
+            return false;
+        }
+        k += 1;
+        if q == e {
+            return k == n;
+        }
+        i = q + 1;
+    }
+}
+
+// Whether the line has the form that its section asks.
+fn form(s: &[u8], a: usize, e: usize, t: Section) -> bool
+    requires { ⌜ (a ≤ e) × (e ≤ length (now s)) ⌝ }
+    ensures { λ r. ⌜ r ≡ formOf t (pieces 32 (slice a e (now (s .entry)))) ⌝ }
+{
+    let p = fields::find(s, a, e, 32);
+    if p == e {
+        return false;
+    }
+    if fields::is_byte(s, a, p, letter(t)) {
+        return spaced(s, p + 1, e, count(t));
+    }
+    false
+}
+
+// The first wrong field, left to right.
+fn check_fields(s: &[u8], a: usize, e: usize, t: Section) -> Check
+    requires { ⌜ (a ≤ e) × (e ≤ length (now s)) ⌝ }
+    ensures { λ r. ⌜ r ≡ fieldsOf t 0 a (pieces 32 (slice a e (now (s .entry)))) ⌝ }
+{
+    let mut i = a;
+    let mut j: usize = 0;
+    loop {
+        let q = fields::find(s, i, e, 32);
+        if good(s, i, q, wanted(t, j)) {
+            if q == e {
+                return Check::Good(1);
+            }
+            i = q + 1;
+            j += 1;
+        } else {
+            return Check::Field(i);
+        }
+    }
+}
+
+// A line, its LF not counted.
+fn check_line(s: &[u8], a: usize, e: usize, t: Section) -> Check
+    requires { ⌜ (a ≤ e) × (e ≤ length (now s)) ⌝ }
+    ensures { λ r. ⌜ r ≡ lineOf t a (slice a e (now (s .entry))) ⌝ }
+{
+    if form(s, a, e, t) {
+        return check_fields(s, a + 2, e, t);
+    }
+    Check::Form(a)
+}
+
+// A section, line by line: 6, then 4, then 5.
+pub fn check_section(s: &[u8], a: usize, e: usize, t: Section) -> Check
+    requires { ⌜ (a ≤ e) × (e ≤ length (now s)) ⌝ }
+    ensures { λ r. ⌜ r ≡ checkOf t a (slice a e (now (s .entry))) ⌝ }
+{
+    let mut i = a;
+    let mut r: usize = 0;
+    while i < e {
+        if size(t) <= r {
+            return Check::Rows(i);
+        }
+        let p = fields::find(s, i, e, 10);
+        if p == e {
+            return Check::Form(i);
+        }
+        let v = check_line(s, i, p, t);
+        let Check::Good(_) = v else {
+            return v;
+        };
+        i = p + 1;
+        r += 1;
+    }
+    Check::Good(r)
+}
