@@ -1,5 +1,7 @@
 -- The tables of a case, what is checked of them, and the whole solve of them from its start on (01, "The solver").
 pub mod Laws
+pub mod Withheld
+pub mod Pinned
 use Prim.Native.Nat.{ℕ, _≤_}
 use mathlib.Core.List.{List}
 use mathlib.Core.Path.{_≡_}

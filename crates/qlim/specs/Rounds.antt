@@ -1,6 +1,7 @@
 -- 01, "Limits": at most 12 rounds. A residual >= 1e-8 ends them; NaN does not, and switching goes on. Twelve rounds without settling give infinity. The
 -- kinds given are those Newton used.
 pub mod Laws
+pub mod Unread
 use Prim.Native.Nat.{ℕ, zero, suc, _≤_}
 use mathlib.Core.Bool.{false, cond}
 use mathlib.Core.List.{List}

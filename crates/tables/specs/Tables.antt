@@ -1,5 +1,6 @@
 -- 01, "Tables and sizes": what the solve over tables answers, what it leaves in the five answer columns and in the workspace, refusals included.
 pub mod Laws
+pub mod Withheld
 use Prim.Native.Nat.{ℕ, zero, suc}
 use mathlib.Core.Bool.{Bool, true, false, cond}
 use mathlib.Core.List.{List, [], _∷_}

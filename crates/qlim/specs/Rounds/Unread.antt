@@ -1,0 +1,229 @@
+-- Demand 3 at this level: what the rounds give does not change with withheld figures. Assumes nothing.
+use Prim.Native.Nat.{ℕ, zero, suc, _≤_, _<_}
+use mathlib.Core.Bool.{Bool, cond}
+use mathlib.Core.List.{List}
+use mathlib.Core.Logic.{_⊎_, inl, inr}
+use mathlib.Core.Path.{_≡_, refl, ap, _∙_}
+use native.Mathlib.Omega.{arith}
+use lib.ListN.{length, getD, length-replicate, getD-replicate}
+use lib.Ieee.{Float, nan, binary64, add, le}
+use Rattle.real.specs.Literals.{tolerance}
+use Rattle.real.specs.Norm.{normOf}
+use Rattle.layout.specs.declared.BusKind.{BusKind}
+use Rattle.layout.specs.declared.BusKind.the-variants.{Slack, Pv, Pq}
+use Rattle.layout.specs.declared.Point.{Point}
+use Rattle.layout.specs.Table.Laws.{stores-length, stores-at, stores-ext, table-at}
+use Rattle.layout.specs.Layout.{kindOf, layoutOf}
+use Rattle.layout.specs.Residual.{powers, residualOf}
+use Rattle.layout.specs.Residual.Laws.{NoActive, NoReactive, AlikeFor, residual-unread}
+use Rattle.injections.specs.Injections.{injectionsOf}
+use Rattle.newton.specs.Newton.{Problem, problem, measuredOf, newtonOf, Run, endedOf, spaceAfter}
+use Rattle.newton.specs.Newton.Laws.{newton-same}
+use Rattle.qlim.specs.declared.Move.{Move}
+use Rattle.qlim.specs.declared.Move.the-variants.{Keep}
+use Rattle.qlim.specs.declared.Track.{Track}
+use Rattle.qlim.specs.declared.Settled.{Settled}
+use Rattle.qlim.specs.Moves.{moveAt, movesOf, anyMove, kindsAfter, trackTo, trackAfter, pinned, lettersOf}
+use Rattle.qlim.specs.Moves.Laws.{NoLimits, Standing, slack, held, released, loaded, active-v, active-q, reactive-q, move-alike, After, standing-on}
+use Rattle.qlim.specs.Rounds.{Study, study, Done, done, infinity, settle, roundOf, roundsFrom, fresh, qlimOf}
+
+-- alike for rounds that begin under these kinds: at each bus a figure agrees, or the bus is of a kind at which it is withheld
+pub record AlikeStudies (kinds : List BusKind) (s u : Study) : Type 0 where
+  pub same-n : s .n ≡ u .n
+  pub same-y : s .y ≡ u .y
+  pub same-hold : s .hold ≡ u .hold
+  pub same-gens : s .limits .«has_gen» ≡ u .limits .«has_gen»
+  pub same-pd : (b : ℕ) → b < s .n → NoActive (kindOf kinds b) ⊎ (getD (s .pd) b nan ≡ getD (u .pd) b nan)
+  pub same-qd : (b : ℕ) → b < s .n → NoActive (kindOf kinds b) ⊎ (getD (s .qd) b nan ≡ getD (u .qd) b nan)
+  pub same-pg : (b : ℕ) → b < s .n → NoActive (kindOf kinds b) ⊎ (getD (s .pg) b nan ≡ getD (u .pg) b nan)
+  pub same-qg : (b : ℕ) → b < s .n → NoReactive (kindOf kinds b) ⊎ (getD (s .qg) b nan ≡ getD (u .qg) b nan)
+  pub same-limits : (b : ℕ) → b < s .n
+      → NoLimits (kindOf kinds b) ⊎ ((getD (s .limits .qmin) b nan ≡ getD (u .limits .qmin) b nan) × (getD (s .limits .qmax) b nan ≡ getD (u .limits .qmax) b nan))
+  -- a place for each bus in the tables that the rounds write over
+  pub kinds-fit : s .n ≤ length kinds
+  pub qg-fit : s .n ≤ length (s .qg)
+  pub qg-fits : s .n ≤ length (u .qg)
+
+-- u's figures in the study s
+abbrev with : Study → Study → Study
+with s u = study (s .n) (s .y) (u .pd) (u .qd) (u .pg) (u .qg) (record { qmin = u .limits .qmin; qmax = u .limits .qmax; «has_gen» = s .limits .«has_gen» }) (s .hold)
+
+abbrev track : List Float → List ℕ → List Bool → Track
+track x c r = record { qsched = x; converted = c; reverted = r }
+
+module _ (d : List BusKind) (s u : Study) (few : s .n ≤ 32) (a : AlikeStudies d s u) where
+  -- each bus as it stands in some round
+  record Stand (kinds : List BusKind) (c : List ℕ) (x y : List Float) : Type 0 where
+    kinds-room : s .n ≤ length kinds
+    converted-room : s .n ≤ length c
+    x-room : s .n ≤ length x
+    y-room : s .n ≤ length y
+    at : (b : ℕ) → b < s .n → Standing (kindOf d b) (kindOf kinds b) (getD c b 0) (getD x b nan) (getD y b nan)
+
+  -- ---- Newton's steps
+
+  module _ (kinds : List BusKind) (c : List ℕ) (x y : List Float) (i : Stand kinds c x y) where
+    active : {e k : BusKind} {z : ℕ} {v w : Float} {A B : Type 0} → Standing e k z v w → NoActive e ⊎ A → NoActive e ⊎ B → NoActive k ⊎ (A × B)
+    active slack p q = inl refl
+    active held p q = inr (active-v p, active-v q)
+    active (released f) p q = inr (active-v p, active-v q)
+    active (loaded f) p q = inr (active-q p, active-q q)
+
+    reactive : {e k : BusKind} {z : ℕ} {v w : Float} {A : Type 0} → Standing e k z v w → NoActive e ⊎ A → NoReactive k ⊎ ((v ≡ w) × A)
+    reactive slack p = inl (inl refl)
+    reactive held p = inl (inr refl)
+    reactive (released f) p = inr (f, active-v p)
+    reactive (loaded f) p = inr (f, active-q p)
+
+    abbrev one : Problem
+    one = problem (s .y) (layoutOf (s .n) kinds) (s .pd) (s .qd) (s .pg) x
+
+    abbrev other : Problem
+    other = problem (s .y) (layoutOf (s .n) kinds) (u .pd) (u .qd) (u .pg) y
+
+    residual-alike : (p q : List Float) → residualOf (layoutOf (s .n) kinds) (powers (s .pd) (s .qd) (s .pg) x p q) ≡ residualOf (layoutOf (s .n) kinds) (powers (u .pd) (u .qd) (u .pg) y p q)
+    residual-alike p q =
+        residual-unread (s .n) kinds _ _ few
+        (record {
+          calc-p = refl;
+          calc-q = refl;
+          active = λ b h. active (i .at b h) (a .same-pg b h) (a .same-pd b h);
+          reactive = λ b h. reactive (i .at b h) (a .same-qd b h);
+        })
+
+    measured-alike : (p : Point) → measuredOf one p ≡ measuredOf other p
+    unfolding measuredOf
+    measured-alike p =
+        let found = injectionsOf (layoutOf (s .n) kinds .n) (s .y) (p .vm) (p .va) in
+        λ j. record { phasors = found .phasors; r = residual-alike (found .power .p) (found .power .q) j; residual = normOf (layoutOf (s .n) kinds .dim) (residual-alike (found .power .p) (found .power .q) j) }
+
+    newton-alike : (p : Point) (w : List Float) → newtonOf one p w ≡ newtonOf other p w
+    newton-alike = newton-same one other refl refl measured-alike
+
+    -- ---- the moves
+
+    module _ (r : List Bool) (q vm : List Float) where
+      abbrev moves : List Move
+      moves = movesOf (s .n) kinds (s .limits) (track x c r) (s .qd) q vm (s .hold)
+
+      abbrev moves' : List Move
+      moves' = movesOf (s .n) kinds (with s u .limits) (track y c r) (u .qd) q vm (s .hold)
+
+      sum-alike : (b : ℕ) → b < s .n → NoActive (kindOf d b) ⊎ (add binary64 (getD q b nan) (getD (s .qd) b nan) ≡ add binary64 (getD q b nan) (getD (u .qd) b nan))
+      sum-alike b h = go (a .same-qd b h)
+        where
+          go : NoActive (kindOf d b) ⊎ (getD (s .qd) b nan ≡ getD (u .qd) b nan) → NoActive (kindOf d b) ⊎ (add binary64 (getD q b nan) (getD (s .qd) b nan) ≡ add binary64 (getD q b nan) (getD (u .qd) b nan))
+          go (inl e) = inl e
+          go (inr e) = inr (rw e)
+
+      moves-alike : moves ≡ moves'
+      unfolding movesOf
+      moves-alike = stores-ext _ _ (s .n) _ (λ b h. move-alike _ _ _ _ _ _ _ _ _ _ (i .at b h) (sum-alike b h) (a .same-limits b h))
+
+      -- after a move
+      abbrev track-on : Track
+      track-on = trackTo (s .n) (track x c r) (s .limits) (s .qg) moves
+
+      abbrev track-on' : Track
+      track-on' = trackTo (s .n) (track y c r) (with s u .limits) (u .qg) moves
+
+      bus-on : (b : ℕ) → b < s .n
+          → After (getD (s .limits .qmin) b nan) (getD (u .limits .qmin) b nan) (getD (s .limits .qmax) b nan) (getD (u .limits .qmax) b nan) (getD (s .qg) b nan) (getD (u .qg) b nan)
+          (kindOf d b) (kindOf kinds b) (getD c b 0) (getD x b nan) (getD y b nan) (getD moves b Keep)
+      unfolding movesOf
+      bus-on b h = rw (table-at (s .n) Keep (moveAt kinds (s .limits) (track x c r) (s .qd) q vm (s .hold)) b Keep h few) (standing-on _ _ _ _ _ _ _ _ _ _ _ (i .at b h) (a .same-limits b h))
+
+      stand-on : Stand (kindsAfter (s .n) kinds moves) (track-on .converted) (track-on .qsched) (track-on' .qsched)
+      unfolding kindsAfter
+      stand-on =
+          record {
+            kinds-room = rw stores-length (i .kinds-room);
+            converted-room = rw stores-length (i .converted-room);
+            x-room = rw stores-length (i .x-room);
+            y-room = rw stores-length (i .y-room);
+            at = λ b h. rw (stores-at _ (s .n) kinds b Slack h (i .kinds-room), stores-at _ (s .n) c b 0 h (i .converted-room), stores-at _ (s .n) x b nan h (i .x-room), stores-at _ (s .n) y b nan h (i .y-room)) (bus-on b h);
+          }
+
+  -- ---- the rounds
+
+  abbrev Rest : Type 0
+  Rest = List BusKind → Track → Point → Settled → List Float → Done
+
+  -- whatever goes on from tables that stand goes on alike
+  abbrev Alike : Rest → Rest → Type 0
+  Alike f g = (kinds : List BusKind) (c : List ℕ) (r : List Bool) (x y : List Float) → Stand kinds c x y → (p : Point) (last : Settled) (w : List Float) → f kinds (track x c r) p last w ≡ g kinds (track y c r) p last w
+
+  module _ (f g : Rest) (alike : Alike f g) (kinds : List BusKind) (c : List ℕ) (r : List Bool) (x y : List Float) (i : Stand kinds c x y) (e : Run) where
+    abbrev at-end : Point
+    at-end = endedOf e .point
+
+    abbrev settled : Done
+    settled = done (settle (s .n) kinds (endedOf e) (endedOf e .residual)) (spaceAfter e)
+
+    abbrev q-end : List Float
+    q-end = injectionsOf (s .n) (s .y) (at-end .vm) (at-end .va) .power .q
+
+    -- the round, once its moves and what goes on from them are known
+    abbrev turned : List Move → Done → Done
+    turned ms z = cond (le tolerance (endedOf e .residual)) settled (cond (anyMove (s .n) ms) z settled)
+
+    abbrev goes : Rest → Study → List Float → List Move → Done
+    goes h t z ms =
+        let next = kindsAfter (s .n) kinds ms in
+        h next (trackTo (s .n) (track z c r) (t .limits) (t .qg) ms) (pinned (s .n) next (s .hold) at-end) (settle (s .n) kinds (endedOf e) infinity) (spaceAfter e)
+
+    round-alike : roundOf s kinds (track x c r) e f ≡ roundOf (with s u) kinds (track y c r) e g
+    unfolding roundOf trackAfter
+    round-alike =
+        let ms = moves kinds c x y i r q-end (at-end .vm) in
+        ap (turned ms) (alike _ _ (track-on kinds c x y i r q-end (at-end .vm) .reverted) _ _ (stand-on kinds c x y i r q-end (at-end .vm)) _ _ _)
+        ∙ ap (λ (m : List Move). turned m (goes g (with s u) y m)) (moves-alike kinds c x y i r q-end (at-end .vm))
+
+  rounds-alike : (k : ℕ) → Alike (roundsFrom k s) (roundsFrom k (with s u))
+  unfolding roundsFrom
+  rounds-alike zero kinds c r x y i p last w = refl
+  rounds-alike (suc k) kinds c r x y i p last w =
+      ap (λ (e : Run). roundOf s kinds (track x c r) e (roundsFrom k s)) (newton-alike kinds c x y i p w)
+      ∙ round-alike (roundsFrom k s) (roundsFrom k (with s u)) (rounds-alike k) kinds c r x y i _
+
+  begin : Stand d (fresh (s .qg) .converted) (s .qg) (u .qg)
+  begin =
+      record {
+        kinds-room = a .kinds-fit;
+        converted-room = rw length-replicate few;
+        x-room = a .qg-fit;
+        y-room = a .qg-fits;
+        at = λ b h. rw (getD-replicate {A = ℕ} 32 b 0 0 (omega arith)) (go (kindOf d b) (a .same-qg b h));
+      }
+    where
+      go : (k : BusKind) {v w : Float} → NoReactive k ⊎ (v ≡ w) → Standing k k 0 v w
+      go Slack e = slack
+      go Pv e = held
+      go Pq e = loaded (reactive-q e)
+
+-- ---- what the rounds give
+
+-- whatever the start and the workspace
+pub rounds-unread : (kinds : List BusKind) (s u : Study) → s .n ≤ 32 → AlikeStudies kinds s u → (p : Point) (w : List Float) → qlimOf s kinds p w ≡ qlimOf u kinds p w
+unfolding qlimOf
+rounds-unread kinds s u few a p w = by 12
+  where
+    -- the start, over any number of rounds
+    from : ℕ → Study → Done
+    from m t = let start = pinned (t .n) kinds (t .hold) p in roundsFrom m t kinds (fresh (t .qg)) start (record { point = start; letters = lettersOf (t .n) kinds; iterations = 0; residual = infinity }) w
+
+    by : (m : ℕ) → from m s ≡ from m u
+    by m =
+        rounds-alike kinds s u few a m kinds _ _ _ _ (begin kinds s u few a) _ _ w
+        ∙ (λ j. from m (study (a .same-n j) (a .same-y j) (u .pd) (u .qd) (u .pg) (u .qg) (record { qmin = u .limits .qmin; qmax = u .limits .qmax; «has_gen» = a .same-gens j }) (a .same-hold j)))
+
+-- and of the start only what is left of it once the held magnitudes are set
+pub start-unread : (kinds : List BusKind) (s : Study) (p q : Point) → pinned (s .n) kinds (s .hold) p ≡ pinned (s .n) kinds (s .hold) q → (w : List Float) → qlimOf s kinds p w ≡ qlimOf s kinds q w
+unfolding qlimOf
+start-unread kinds s p q e w = by 12
+  where
+    from : ℕ → Point → Done
+    from m start = roundsFrom m s kinds (fresh (s .qg)) start (record { point = start; letters = lettersOf (s .n) kinds; iterations = 0; residual = infinity }) w
+
+    by : (m : ℕ) → from m (pinned (s .n) kinds (s .hold) p) ≡ from m (pinned (s .n) kinds (s .hold) q)
+    by m = ap (from m) e
