@@ -15,7 +15,7 @@ use Rattle.rows.specs.Printed.Laws.{section-rows}
 use Rattle.rows.specs.declared.Section.{Section}
 use Rattle.rows.specs.declared.Section.the-variants as Section
 use Rattle.rows.specs.declared.Check.the-variants as Check
-use Rattle.columns.specs.Columns.{rowCount, filled, realAt, numberAt, kindAt}
+use Rattle.columns.specs.Columns.{rowCount}
 use Rattle.case_text.specs.Trailer.{startOf, bytesOf, placesOf}
 use Rattle.case_text.specs.Trailer.Laws.{within}
 use Rattle.case_text.specs.Text.{partOf, textOf}

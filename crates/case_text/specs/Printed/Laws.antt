@@ -1,7 +1,7 @@
 -- No byte of an accepted text is skipped: it is its rows and its trailer, printed; every field of a row is good, and the trailer's groups are
 -- five digits. Assumes nothing.
 use mathlib.Core.Path.{_≡_, refl, sym, ap, _∙_}
-use mathlib.Core.Bool.{true, false}
+use mathlib.Core.Bool.{true}
 use mathlib.Core.Logic.{⊎-elim}
 use mathlib.Core.List.{List, [], _∷_, _++_, append-assoc}
 use Prim.Native.Nat.{ℕ, zero, suc, _+_, _-_, _*_, _≤_, _<_}
@@ -20,7 +20,7 @@ use Rattle.rows.specs.declared.Section.{Section}
 use Rattle.rows.specs.declared.Section.the-variants as Section
 use Rattle.rows.specs.declared.Check.the-variants as Check
 use Rattle.case_text.specs.Trailer.{groupOf, startAt, risingOf, startOf, endOf, bytesOf}
-use Rattle.case_text.specs.Trailer.Laws.{Group, first-group, groups-after, Good, good, rising, Within, within}
+use Rattle.case_text.specs.Trailer.Laws.{first-group, groups-after, Good, good, rising, Within, within}
 use Rattle.case_text.specs.Text.{partOf, textOf}
 use Rattle.case_text.specs.Text.Laws.{accepted-has}
 use Rattle.case_text.specs.Printed.{rowsPrinted, groupsPrinted, trailerPrinted, textPrinted}
