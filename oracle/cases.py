@@ -52,6 +52,8 @@ def meshed(rng, n):
 
 def network(rng, kind):
     """One case of a class."""
+    if kind == "cascade":
+        return cascade(rng)
     n = rng.choice([1, 2, 2, 3, 3, 4, 5, 6, 8, 9, 12, 14, 20]) if kind != "full" else 32
     islands = 1
     if kind in ("islands", "no_slack") and n >= 4:
@@ -116,7 +118,17 @@ def network(rng, kind):
     return text(start, buses, [(b, number(a)) for b, a in slacks], gens, [(f, t) for f, t, _, _ in branches[:64]], rows)
 
 
-KINDS = ["plain", "plain", "plain", "heavy", "hard", "light", "islands", "no_slack", "two_slacks", "limits", "limits", "chatter", "bad_case", "diagonal", "singular", "shuffled", "wild", "full"]
+def cascade(rng):
+    """A row of generators, each of which, once held at its limit, hands what is lacking to the next: one switch a round."""
+    n, load, x = rng.randrange(3, 24), rng.uniform(0.2, 0.4), rng.uniform(0.005, 0.02)
+    branches = [(b, b + 1, 0, -1 / x) for b in range(n - 1)]
+    buses = [("V", "1", "0", number(load if b == 0 else 0), "0", "0", "?", "?") for b in range(n)]
+    gens = [(b, "-1", number(rng.uniform(0.002, 0.01))) for b in range(n - 1)]
+    rows = [(i, k, number(y.real), number(y.imag)) for i, k, y in admittances(n, branches, [(0, 0)] * n)]
+    return text(rng.choice("FC"), buses, [(n - 1, "0")], gens, [(f, t) for f, t, _, _ in branches], rows)
+
+
+KINDS = ["plain", "plain", "plain", "heavy", "hard", "light", "islands", "no_slack", "two_slacks", "limits", "limits", "chatter", "bad_case", "diagonal", "singular", "shuffled", "wild", "full", "cascade"]
 
 
 def damaged(rng, good):

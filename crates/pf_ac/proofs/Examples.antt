@@ -1,6 +1,6 @@
 -- Demand 3's assumption can be met: three buses S, V, Q with x in every place that 01 withholds under the flat start. Assumes nothing.
 use Prim.Native.Nat.{ℕ, zero, suc, _<_}
-use mathlib.Core.Bool.{Bool, true≢false}
+use mathlib.Core.Bool.{true≢false}
 use mathlib.Core.List.{[], _∷_}
 use mathlib.Core.Logic.{inl, inr}
 use mathlib.Core.Path.{_≡_, refl, sym, ap}

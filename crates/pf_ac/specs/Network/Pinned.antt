@@ -5,7 +5,6 @@ use mathlib.Core.List.{List}
 use mathlib.Core.Logic.{_⊎_, inl, inr}
 use mathlib.Core.Path.{_≡_, refl, sym, ap, _∙_}
 use native.Mathlib.Numerals.{add-one}
-use native.Mathlib.Omega.{arith}
 use borrow.Author.Tests.{ltb-true, ltb-false}
 use lib.Dec.{eqb, ltb}
 use lib.ListN.{length, getD, replicate, length-replicate}
@@ -28,8 +27,8 @@ use Rattle.qlim.specs.Rounds.Unread.{start-unread}
 use Rattle.pf_ac.specs.declared.AcStart.{AcStart}
 use Rattle.pf_ac.specs.declared.AcStart.the-variants.{Flat, Case}
 use Rattle.pf_ac.specs.Search.{startOf, betterOf, tryOf, searchFrom, firstOf, nothing, searchOf}
-use Rattle.pf_ac.specs.Network.{Network, network, buses, columnOf, kindsFor, studyFor, referencesFor, flatFor, firstFor, acPfOf}
-use Rattle.pf_ac.specs.Network.Withheld.{kindIn, SameAt}
+use Rattle.pf_ac.specs.Network.{Network, network, buses, kindsFor, studyFor, referencesFor, flatFor, firstFor, acPfOf}
+use Rattle.pf_ac.specs.Network.Withheld.{kindFor, SameAt}
 
 -- ---- points alike once they are pinned
 
@@ -91,14 +90,14 @@ search-pinned Case s kinds p q flat rounds w = first Case s kinds p q flat round
 abbrev pub stored : Network → List Float → Network
 stored t vm = network (t .kind) (t .vm-set) (t .pd) (t .qd) (t .pg) (t .qg) vm (t .va-case) (t .slacks) (t .va-slacks) (t .gen-bus) (t .qmin) (t .qmax) (t .br-from) (t .br-to) (t .y-row) (t .y-col) (t .y-re) (t .y-im) (t .start)
 
-module _ (t : Network) (few : buses t ≤ 32) (vm : List Float) (same : (b : ℕ) → b < buses t → ((kindIn t b ≡ Slack) ⊎ (kindIn t b ≡ Pv)) ⊎ SameAt (t .vm-case) vm b) where
+module _ (t : Network) (few : buses t ≤ 32) (vm : List Float) (same : (b : ℕ) → b < buses t → ((kindFor t b ≡ Slack) ⊎ (kindFor t b ≡ Pv)) ⊎ SameAt (t .vm-case) vm b) where
   abbrev firstAt : AcStart → List Float → Point
   firstAt start l = firstOf start (buses t) (t .vm-set) l (t .va-case) (referencesFor t) (flatFor t)
 
   figure : (b : ℕ) → b < buses t → NoReactive (kindOf (kindsFor t) b) ⊎ (caseVm (t .vm-set) (t .vm-case) b ≡ caseVm (t .vm-set) vm b)
   figure b h = rw (kinds-at (buses t) (t .kind) (t .slacks) b Slack h few) (go (same b h))
     where
-      go : ((kindIn t b ≡ Slack) ⊎ (kindIn t b ≡ Pv)) ⊎ SameAt (t .vm-case) vm b → NoReactive (kindIn t b) ⊎ (caseVm (t .vm-set) (t .vm-case) b ≡ caseVm (t .vm-set) vm b)
+      go : ((kindFor t b ≡ Slack) ⊎ (kindFor t b ≡ Pv)) ⊎ SameAt (t .vm-case) vm b → NoReactive (kindFor t b) ⊎ (caseVm (t .vm-set) (t .vm-case) b ≡ caseVm (t .vm-set) vm b)
       go (inl e) = inl e
       go (inr e) = inr (rw e)
 

@@ -1,6 +1,5 @@
 -- Demand 3: two networks that differ only in 01's "Withheld columns" are solved alike, in answer and workspace. Assumes nothing.
 use Prim.Native.Nat.{ℕ, zero, suc, _+_, _≤_, _<_}
-use mathlib.Core.Bool.{Bool}
 use mathlib.Core.List.{List}
 use mathlib.Core.Logic.{_⊎_, inl, inr}
 use mathlib.Core.Path.{_≡_, refl, sym, ap, _∙_}
@@ -19,16 +18,16 @@ use Rattle.layout.specs.Kinds.Laws.{kinds-at}
 use Rattle.layout.specs.Limits.{sumAt, limitsOf}
 use Rattle.layout.specs.Limits.Laws.{qmin-at, qmax-at, sum-unread}
 use Rattle.qlim.specs.declared.Settled.{Settled}
-use Rattle.qlim.specs.Rounds.{Study, Done, qlimOf}
+use Rattle.qlim.specs.Rounds.{Study, qlimOf}
 use Rattle.qlim.specs.Rounds.Unread.{AlikeStudies, rounds-unread}
 use Rattle.pf_ac.specs.declared.AcStart.{AcStart}
 use Rattle.pf_ac.specs.declared.AcStart.the-variants.{Flat}
-use Rattle.pf_ac.specs.Search.{Searched, startOf, tryOf, searchFrom, countOf, nothing, firstOf, searchOf}
-use Rattle.pf_ac.specs.Network.{Network, network, buses, Ready, columnOf, kindsFor, studyFor, referencesFor, flatFor, firstFor, acPfOf}
+use Rattle.pf_ac.specs.Search.{startOf, tryOf, searchFrom, countOf, nothing, searchOf}
+use Rattle.pf_ac.specs.Network.{Network, network, buses, columnOf, kindsFor, studyFor, flatFor, firstFor, acPfOf}
 
 -- 01's kind of bus b
-abbrev pub kindIn : Network → ℕ → BusKind
-kindIn t b = kindAt (length (t .slacks)) (t .kind) (t .slacks) b
+abbrev pub kindFor : Network → ℕ → BusKind
+kindFor t b = kindAt (length (t .slacks)) (t .kind) (t .slacks) b
 
 -- the bus of generator g
 abbrev pub genBus : Network → ℕ → ℕ
@@ -38,7 +37,7 @@ genBus t g = getD (t .gen-bus) g 0
 abbrev pub SameAt : List Float → List Float → ℕ → Type 0
 SameAt l m b = getD l b nan ≡ getD m b nan
 
--- alike but for the withheld columns: what stands before a ⊎ is the bus at which 01 withholds the figure
+-- alike but for the withheld columns: what stands before a ⊎ is where 01 withholds the figure. All else agrees: whole columns first, then lengths
 pub record Alike (t u : Network) : Type 0 where
   pub kind : t .kind ≡ u .kind
   pub vm-set : t .vm-set ≡ u .vm-set
@@ -60,12 +59,12 @@ pub record Alike (t u : Network) : Type 0 where
   pub qmax-length : length (t .qmax) ≡ length (u .qmax)
   pub vm-case-length : length (t .vm-case) ≡ length (u .vm-case)
   pub va-case-length : length (t .va-case) ≡ length (u .va-case)
-  pub pd : (b : ℕ) → b < buses t → (kindIn t b ≡ Slack) ⊎ SameAt (t .pd) (u .pd) b
-  pub qd : (b : ℕ) → b < buses t → (kindIn t b ≡ Slack) ⊎ SameAt (t .qd) (u .qd) b
-  pub pg : (b : ℕ) → b < buses t → (kindIn t b ≡ Slack) ⊎ SameAt (t .pg) (u .pg) b
-  pub qg : (b : ℕ) → b < buses t → ((kindIn t b ≡ Slack) ⊎ (kindIn t b ≡ Pv)) ⊎ SameAt (t .qg) (u .qg) b
-  pub qmin : (g : ℕ) → g < length (t .gen-bus) → ((kindIn t (genBus t g) ≡ Slack) ⊎ (kindIn t (genBus t g) ≡ Pq)) ⊎ SameAt (t .qmin) (u .qmin) g
-  pub qmax : (g : ℕ) → g < length (t .gen-bus) → ((kindIn t (genBus t g) ≡ Slack) ⊎ (kindIn t (genBus t g) ≡ Pq)) ⊎ SameAt (t .qmax) (u .qmax) g
+  pub pd : (b : ℕ) → b < buses t → (kindFor t b ≡ Slack) ⊎ SameAt (t .pd) (u .pd) b
+  pub qd : (b : ℕ) → b < buses t → (kindFor t b ≡ Slack) ⊎ SameAt (t .qd) (u .qd) b
+  pub pg : (b : ℕ) → b < buses t → (kindFor t b ≡ Slack) ⊎ SameAt (t .pg) (u .pg) b
+  pub qg : (b : ℕ) → b < buses t → ((kindFor t b ≡ Slack) ⊎ (kindFor t b ≡ Pv)) ⊎ SameAt (t .qg) (u .qg) b
+  pub qmin : (g : ℕ) → g < length (t .gen-bus) → ((kindFor t (genBus t g) ≡ Slack) ⊎ (kindFor t (genBus t g) ≡ Pq)) ⊎ SameAt (t .qmin) (u .qmin) g
+  pub qmax : (g : ℕ) → g < length (t .gen-bus) → ((kindFor t (genBus t g) ≡ Slack) ⊎ (kindFor t (genBus t g) ≡ Pq)) ⊎ SameAt (t .qmax) (u .qmax) g
   pub vm-case : (t .start ≡ Flat) ⊎ (t .vm-case ≡ u .vm-case)
   pub va-case : (t .start ≡ Flat) ⊎ (t .va-case ≡ u .va-case)
 
@@ -87,17 +86,17 @@ with t u = network (t .kind) (t .vm-set) (u .pd) (u .qd) (u .pg) (u .qg) (u .vm-
 
 module _ (t u : Network) (few : buses t ≤ 32) (a : Alike t u) where
   -- a sum of limits at a bus: only its own generators count, and those are all withheld or all given
-  module _ (q p : List Float) (same : (g : ℕ) → g < length (t .gen-bus) → ((kindIn t (genBus t g) ≡ Slack) ⊎ (kindIn t (genBus t g) ≡ Pq)) ⊎ SameAt q p g) (b : ℕ) where
-    sum-alike : kindIn t b ≡ Pv → sumAt (length (t .gen-bus)) (t .gen-bus) q b ≡ sumAt (length (t .gen-bus)) (t .gen-bus) p b
+  module _ (q p : List Float) (same : (g : ℕ) → g < length (t .gen-bus) → ((kindFor t (genBus t g) ≡ Slack) ⊎ (kindFor t (genBus t g) ≡ Pq)) ⊎ SameAt q p g) (b : ℕ) where
+    sum-alike : kindFor t b ≡ Pv → sumAt (length (t .gen-bus)) (t .gen-bus) q b ≡ sumAt (length (t .gen-bus)) (t .gen-bus) p b
     sum-alike e = sum-unread (length (t .gen-bus)) (t .gen-bus) q p b (λ g h. go g (same g h))
       where
-        go : (g : ℕ) → ((kindIn t (genBus t g) ≡ Slack) ⊎ (kindIn t (genBus t g) ≡ Pq)) ⊎ SameAt q p g → (genBus t g ≡ b → ⊥) ⊎ SameAt q p g
-        go g (inl (inl k)) = inl (λ at. let i = ap (kindIn t) at in let z : _≡_ {A = ℕ} 0 1 = cc in omega arith)
-        go g (inl (inr k)) = inl (λ at. let i = ap (kindIn t) at in let z : _≡_ {A = ℕ} 0 1 = cc in omega arith)
+        go : (g : ℕ) → ((kindFor t (genBus t g) ≡ Slack) ⊎ (kindFor t (genBus t g) ≡ Pq)) ⊎ SameAt q p g → (genBus t g ≡ b → ⊥) ⊎ SameAt q p g
+        go g (inl (inl k)) = inl (λ at. let i = ap (kindFor t) at in let z : _≡_ {A = ℕ} 0 1 = cc in omega arith)
+        go g (inl (inr k)) = inl (λ at. let i = ap (kindFor t) at in let z : _≡_ {A = ℕ} 0 1 = cc in omega arith)
         go g (inr s) = inr s
 
-  limits-alike : (b : ℕ) → b < buses t → (k : BusKind) → kindIn t b ≡ k
-      → ((kindIn t b ≡ Slack) ⊎ (kindIn t b ≡ Pq)) ⊎ (SameAt (studyFor t .limits .qmin) (studyFor (with t u) .limits .qmin) b × SameAt (studyFor t .limits .qmax) (studyFor (with t u) .limits .qmax) b)
+  limits-alike : (b : ℕ) → b < buses t → (k : BusKind) → kindFor t b ≡ k
+      → ((kindFor t b ≡ Slack) ⊎ (kindFor t b ≡ Pq)) ⊎ (SameAt (studyFor t .limits .qmin) (studyFor (with t u) .limits .qmin) b × SameAt (studyFor t .limits .qmax) (studyFor (with t u) .limits .qmax) b)
   limits-alike b h Slack e = inl (inl e)
   limits-alike b h Pq e = inl (inr e)
   limits-alike b h Pv e =
@@ -120,7 +119,7 @@ module _ (t u : Network) (few : buses t ≤ 32) (a : Alike t u) where
   column-at : (l : List Float) (b : ℕ) → b < buses t → getD (columnOf (buses t) l) b nan ≡ getD l b nan
   column-at l b h = table-at (buses t) nought (λ i. getD l i nan) b nan h few
 
-  kind-at : (b : ℕ) → b < buses t → kindOf (kindsFor t) b ≡ kindIn t b
+  kind-at : (b : ℕ) → b < buses t → kindOf (kindsFor t) b ≡ kindFor t b
   kind-at b h = kinds-at (buses t) (t .kind) (t .slacks) b Slack h few
 
   studies-alike : AlikeStudies (kindsFor t) (studyFor t) (studyFor (with t u))
@@ -134,7 +133,7 @@ module _ (t u : Network) (few : buses t ≤ 32) (a : Alike t u) where
         same-qd = λ b h. rw (kind-at b h) (a .qd b h);
         same-pg = λ b h. rw (kind-at b h) (a .pg b h);
         same-qg = λ b h. rw (kind-at b h, column-at (t .qg) b h, column-at (u .qg) b h) (a .qg b h);
-        same-limits = λ b h. rw (kind-at b h) (limits-alike b h (kindIn t b) refl);
+        same-limits = λ b h. rw (kind-at b h) (limits-alike b h (kindFor t b) refl);
         kinds-fit = kinds-fit;
         qg-fit = column-fits (t .qg);
         qg-fits = column-fits (u .qg);

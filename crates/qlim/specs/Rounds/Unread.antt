@@ -15,7 +15,7 @@ use Rattle.layout.specs.declared.Point.{Point}
 use Rattle.layout.specs.Table.Laws.{stores-length, stores-at, stores-ext, table-at}
 use Rattle.layout.specs.Layout.{kindOf, layoutOf}
 use Rattle.layout.specs.Residual.{powers, residualOf}
-use Rattle.layout.specs.Residual.Laws.{NoActive, NoReactive, AlikeFor, residual-unread}
+use Rattle.layout.specs.Residual.Laws.{NoActive, NoReactive, residual-unread}
 use Rattle.injections.specs.Injections.{injectionsOf}
 use Rattle.newton.specs.Newton.{Problem, problem, measuredOf, newtonOf, Run, endedOf, spaceAfter}
 use Rattle.newton.specs.Newton.Laws.{newton-same}

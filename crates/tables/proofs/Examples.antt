@@ -1,0 +1,46 @@
+-- 01's listing, computed: one slack bus with the admittance 2 - 8j is solved at the first start. Assumes nothing.
+use Prim.Native.Nat.{ℕ}
+use mathlib.Core.Bool.{Bool, true, cond}
+use mathlib.Core.Path.{_≡_, ap}
+use mathlib.Core.List.{List, [], _∷_}
+use lib.Dec.{leb}
+use lib.IntN.{pos}
+use lib.ListN.{length}
+use lib.Ieee.{Float, nan, binary64, ofInt, ofBits, add, sub, mul, div, neg, lt, le, isNan}
+use Rattle.real.specs.Norm.{normOf}
+use Rattle.real.specs.Real.{absolute}
+use Rattle.trig.specs.Sine.{sinCosOf}
+use Rattle.islands.specs.Islands.{groupOf, lowest, tally, each, labelsOf}
+use Rattle.layout.specs.Kinds.{listed, kindsOf}
+use Rattle.layout.specs.Layout.{angleCount, magnitudeCount, layoutOf}
+use Rattle.layout.specs.Limits.{sumAt, hasGen, limitsOf}
+use Rattle.layout.specs.Table.{stores}
+use Rattle.injections.specs.Injections.{voltagesOf, currentsTo, phasorsOf, injectedOf}
+use Rattle.newton.specs.Newton.{measuredOf, stepsFrom, newtonOf}
+use Rattle.qlim.specs.Moves.{moveOf, movesOf, anyMove, pinned, lettersOf}
+use Rattle.qlim.specs.Rounds.{roundOf, roundsFrom, qlimOf}
+use Rattle.starts.specs.References.{angleOf, referencesOf}
+use Rattle.starts.specs.Starts.{flatOf}
+use Rattle.pf_ac.specs.Network.{Network, network, acPfOf}
+use Rattle.pf_ac.specs.Search.{startOf, betterOf, tryOf, searchFrom, searchOf}
+use Rattle.tables.specs.Tables.{Outs, outs, answer, ok, refused, both, allBelow, counted, roomy, numbered, writtenOf, zeros, ranOf, solveOf}
+use Rattle.pf_ac.specs.declared.AcStart.the-variants.{Flat}
+
+-- a whole number as a double
+abbrev whole : ℕ → Float
+whole n = ofInt binary64 (pos n)
+
+abbrev pub listing : Network
+listing =
+    network (81 ∷ []) (whole 1 ∷ []) (whole 0 ∷ []) (whole 0 ∷ []) (whole 0 ∷ []) (whole 0 ∷ []) (nan ∷ []) (nan ∷ []) (0 ∷ []) (whole 0 ∷ []) [] [] [] [] []
+    (0 ∷ []) (0 ∷ []) (whole 2 ∷ []) (neg (whole 8) ∷ []) Flat
+
+-- answer columns of one place each
+abbrev pub row : Float → Float → Float → Float → ℕ → Outs
+row vm va p q kind = outs (vm ∷ []) (va ∷ []) (p ∷ []) (q ∷ []) (kind ∷ [])
+
+-- whatever stood in the columns and in the workspace; 83 is the letter S
+pub listing-solved : (a b c d : Float) (k : ℕ) (w : List Float) → leb 6144 (length w) ≡ true →
+    solveOf listing (row a b c d k) w ≡ answer (ok 0 (whole 0)) (row (whole 1) (whole 0) (whole 2) (whole 8) 83) (zeros w)
+unfolding normOf absolute sinCosOf groupOf lowest tally each labelsOf listed kindsOf angleCount magnitudeCount layoutOf sumAt hasGen limitsOf stores voltagesOf currentsTo phasorsOf injectedOf measuredOf stepsFrom newtonOf moveOf movesOf anyMove pinned lettersOf roundOf roundsFrom qlimOf angleOf referencesOf flatOf acPfOf startOf betterOf tryOf searchFrom searchOf both allBelow counted roomy numbered writtenOf ranOf solveOf ofInt ofBits add sub mul div neg lt le isNan
+listing-solved a b c d k w h = ap (λ (r : Bool). cond r (ranOf listing (row a b c d k) w (acPfOf listing w)) (answer (refused 9 []) (row a b c d k) w)) h
