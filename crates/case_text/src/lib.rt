@@ -92,12 +92,39 @@ fn group(s: &[u8], at: usize) -> fields::Digits
     fields::Digits::Other
 }
 
+// The text and the place from which it is read on, kept together.
+struct Reader<'a> {
+    text: &'a [u8],
+    at: usize,
+}
+
+fn placed<'a>(text: &'a [u8], at: usize) -> Reader<'a>
+    ensures { λ r. ⌜ (r .text ≡ text .entry) × (r .at ≡ at) ⌝ }
+{
+    Reader { text, at }
+}
+
+fn next_group<'a>(r: Reader<'a>) -> fields::Digits
+    requires { ⌜ r .at + 6 ≤ length (now (r .text)) ⌝ }
+    ensures { λ g. ⌜ g ≡ groupOf (now (r .entry .text)) (r .entry .at) ⌝ }
+{
+    group(r.text, r.at)
+}
+
+// The group at a place, for callers that have the text and the place apart.
+fn group_at(s: &[u8], at: usize) -> fields::Digits
+    requires { ⌜ at + 6 ≤ length (now s) ⌝ }
+    ensures { λ r. ⌜ r ≡ groupOf (now (s .entry)) at ⌝ }
+{
+    next_group(placed(s, at))
+}
+
 // The number of a group.
 fn start_at(s: &[u8], at: usize) -> usize
     requires { ⌜ at + 6 ≤ length (now s) ⌝ }
     ensures { λ r. ⌜ r ≡ startAt (now (s .entry)) at ⌝ }
 {
-    fields::number_in(group(s, at))
+    fields::number_in(group_at(s, at))
 }
 
 // Whether n groups stand from at on, whose numbers never fall, and the last is `end`.
@@ -109,7 +136,7 @@ fn rising(s: &[u8], at: usize, n: usize, end: usize) -> bool
     let mut i = at;
     let mut k = n;
     while 0 < k {
-        let fields::Digits::Number(m) = group(s, i) else {
+        let fields::Digits::Number(m) = group_at(s, i) else {
             return false;
         };
         if m < low {

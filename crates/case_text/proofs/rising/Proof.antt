@@ -20,21 +20,21 @@ loop-holds c = (c .before .pre, refl)
 
 returns : tie.Need-returns Inv-loop μ-loop
 returns c =
-    let g = c .before .before .group in
+    let g = c .before .before .group-at in
     let l = c .before .before .before .before .loop in
     sym (rising-wrong (l .k) _ (l .i) (l .low) _ (omega arith) (sym (g .ensures) ∙ c .enum-told .given .1)) ∙ l .inv .1
 
 returns-2 : tie.Need-returns-2 Inv-loop μ-loop
 returns-2 c =
     let m = c .before .before in
-    let g = m .before .before .group in
+    let g = m .before .before .group-at in
     let l = m .before .before .before .before .loop in
     sym (rising-falls (l .k) _ (l .i) (l .low) _ (omega arith) _ (sym (g .ensures) ∙ m .m .given .1) (c .if1 .taken)) ∙ l .inv .1
 
 loop-again : tie.Need-loop-again Inv-loop μ-loop
 loop-again c =
     let m = c .before .before in
-    let g = m .before .before .group in
+    let g = m .before .before .group-at in
     let l = m .before .before .before .before .loop in
     (omega arith, sym (rising-on (l .k) _ (l .i) (l .low) _ (omega arith) _ (sym (g .ensures) ∙ m .m .given .1) (c .if1 .left)) ∙ l .inv .1)
 

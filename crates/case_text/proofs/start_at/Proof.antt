@@ -6,7 +6,7 @@ use Rattle.case_text.proofs.start_at.Statement.{statement}
 use Rattle.case_text.proofs.start_at.Tie as tie
 
 returns : tie.Need-returns
-returns c = c .number-in .ensures ∙ ap numberIn (c .before .group .ensures)
+returns c = c .number-in .ensures ∙ ap numberIn (c .before .group-at .ensures)
 
 pub start-at-spec : {M : Type 1} → statement M
 start-at-spec = tie.close (tie.spec (λ c κs. search needs) (λ c κs. search needs) returns)
