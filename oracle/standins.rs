@@ -200,6 +200,11 @@ pub struct Met {
     pub back: usize,
     pub unsettled: usize,
     pub nan: usize,
+    pub fifty: usize,
+    pub nan_step: usize,
+    pub inf_step: usize,
+    pub nan_trial: usize,
+    pub inf_trial: usize,
 }
 
 thread_local! {
