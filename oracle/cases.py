@@ -134,12 +134,16 @@ def classes(batch, out, notes):
 
 
 def report(count):
-    """Prints the counts; an empty class ends the command."""
+    """Prints the counts."""
     sizes = [name for name in count if name.endswith(" buses")]
     print("texts with 0, 1, .. 32 buses: " + " ".join(str(count[name]) for name in sizes))
     for name in count:
         if name not in sizes:
             print(f"{count[name]:7d}  {name}")
+
+
+def check(count):
+    """An empty class ends the command."""
     empty = [name for name in count if not count[name]]
     if empty:
         sys.exit("empty: " + ", ".join(empty))
@@ -168,7 +172,9 @@ def main():
         print_late(sys.argv[1])
     elif len(sys.argv) == 4:
         batch = texts(int(sys.argv[2]), int(sys.argv[3]))
-        report(classes(batch, *answers(sys.argv[1], batch)))
+        count = classes(batch, *answers(sys.argv[1], batch))
+        report(count)
+        check(count)
     else:
         sys.exit(__doc__)
 
