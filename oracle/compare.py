@@ -24,7 +24,7 @@ def solve(program, text):
 
 def unlike(a, b):
     """The first lines that differ."""
-    return next(pair for pair in zip_longest(a.splitlines(), b.splitlines(), fillvalue=b"") if pair[0] != pair[1])
+    return next(pair for pair in zip_longest(a.split(b"\n"), b.split(b"\n")) if pair[0] != pair[1])
 
 
 def save(seed, place, text):
