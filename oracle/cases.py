@@ -16,7 +16,7 @@ ROUND = [f.plain, f.plain, f.heavy, f.islands, f.no_slack, f.slacks, f.limits, f
          f.shuffled, f.wild, f.distant, f.far_angle, f.far_angle, f.late, f.late, f.late, f.late, f.no_bus, f.length, f.trailer, f.alphabet, f.over, f.form,
          f.field, f.beyond, f.struck]
 LARGE = [f.full, f.overflow, f.overflow, f.long, f.overflow, f.overflow, f.overflow, f.overflow]
-MET = "starts rounds steps halved unfit singular stuck at_max at_min back unsettled nan fifty nan_step inf_step nan_trial inf_trial".split()
+MET = "starts rounds steps halved unfit singular stuck at_max at_min back unsettled nan fifty nan_step inf_step nan_trial inf_trial far".split()
 
 
 def texts(seed, count):
@@ -93,6 +93,7 @@ def run_classes(text, answer, m):
         "a singular matrix": m["singular"] > 0,
         "a fiftieth step": m["fifty"] > 0,
         "solved by the fiftieth step": answer.startswith(b"ok 49 ") and m["fifty"] > 0,
+        "an angle beyond 1024 radians": m["far"] > 0,
         "a NaN mismatch": m["nan"] > 0,
         "switching goes on after a NaN": m["nan"] > m["starts"],
         "a NaN direction": m["nan_step"] > 0,

@@ -1,10 +1,15 @@
 #!/usr/bin/env python3
 """Makes the altered Rust from the repository's text, and builds it with the Rust compiler alone.
 
-Usage: python3 oracle/make_oracle.py PATH_TO_SRC [OUT]     PATH_TO_SRC holds crates/tellegen/src/.. of eigenergy/tellegen; OUT is target/oracle
+Usage: python3 oracle/make_oracle.py PATH_TO_SRC [OUT] [--num-complex CRATES]
+PATH_TO_SRC holds crates/tellegen/src/.. of eigenergy/tellegen; OUT is target/oracle.
 Writes OUT/altered.rs (find and dense_islands of islands.rs, all of pf_ac.rs, changed only as listed in CHANGES) and builds OUT/oracle and
 OUT/oracle_platform (the same with the platform's sine and cosine). None of the repository's text is kept here.
+With --num-complex it builds OUT/oracle_num_complex too: the platform's sine and cosine, and the crate num_complex itself in place of complex.rs.
+CRATES is a folder with the sources of num-complex and num-traits (Debian: librust-num-complex-dev puts them in /usr/share/cargo/registry).
 """
+import argparse
+import glob
 import os
 import re
 import subprocess
@@ -41,12 +46,8 @@ def take(text, start, end):
     return text[i:text.index(end, i) + len(end)]
 
 
-def main():
-    if len(sys.argv) < 2:
-        sys.exit(__doc__)
-    src = os.path.join(sys.argv[1], "crates", "tellegen", "src")
-    out = sys.argv[2] if len(sys.argv) > 2 else os.path.join(HERE, "..", "target", "oracle")
-    os.makedirs(out, exist_ok=True)
+def altered(src):
+    """The repository's part of the program."""
     islands = open(os.path.join(src, "model", "islands.rs")).read()
     pf_ac = open(os.path.join(src, "problem", "pf_ac.rs")).read()
     for what, old, new in CHANGES:
@@ -54,14 +55,50 @@ def main():
             sys.exit(f"{pf_ac.count(old)} places for: {what}")
         pf_ac = pf_ac.replace(old, new)
     pf_ac = re.sub(r"^//!.*\n", "", pf_ac, flags=re.M)
-    find = take(islands, "fn find(parent", "\n}\n")
-    dense = take(islands, "pub(crate) fn dense_islands", "\n}\n")
-    text = "#![allow(dead_code, unused_imports, unexpected_cfgs)]\n" + open(os.path.join(HERE, "standins.rs")).read() + find + dense + pf_ac + open(os.path.join(HERE, "driver.rs")).read()
-    with open(os.path.join(out, "altered.rs"), "w") as f:
-        f.write(text)
-    for name, flags in (("oracle", []), ("oracle_platform", ["--cfg", "platform_sine"])):
-        subprocess.run(["rustc", "--edition", "2021", "-O", "-C", "llvm-args=-fp-contract=off", *flags, "-o", os.path.join(out, name), os.path.join(out, "altered.rs")], check=True)
-    print(f"{len(CHANGES)} changes; built {out}/oracle and {out}/oracle_platform")
+    return take(islands, "fn find(parent", "\n}\n") + take(islands, "pub(crate) fn dense_islands", "\n}\n") + pf_ac
+
+
+def own(name):
+    return open(os.path.join(HERE, name)).read()
+
+
+def write(path, numbers, part):
+    with open(path, "w") as f:
+        f.write("#![allow(dead_code, unused_imports, unexpected_cfgs)]\n" + own("standins.rs") + numbers + part + own("driver.rs"))
+
+
+def rustc(source, out, *flags):
+    subprocess.run(["rustc", "-O", "-C", "llvm-args=-fp-contract=off", *flags, "-o", out, source], check=True)
+    print("built", os.path.relpath(out))
+
+
+def crate(crates, name, out, *flags):
+    """Builds a crate of the folder as a library."""
+    source, = glob.glob(os.path.join(crates, f"{name}-[0-9]*", "src", "lib.rs"))
+    library = os.path.join(out, f"lib{name.replace('-', '_')}.rlib")
+    rustc(source, library, "--crate-name", name.replace("-", "_"), "--crate-type", "rlib", "--cap-lints", "allow", "--cfg", 'feature="std"', *flags)
+    return library
+
+
+def main():
+    args = argparse.ArgumentParser(description=__doc__, formatter_class=argparse.RawDescriptionHelpFormatter)
+    args.add_argument("src")
+    args.add_argument("out", nargs="?", default=os.path.join(HERE, "..", "target", "oracle"))
+    args.add_argument("--num-complex")
+    args = args.parse_args()
+    os.makedirs(args.out, exist_ok=True)
+    part = altered(os.path.join(args.src, "crates", "tellegen", "src"))
+    print(f"{len(CHANGES)} changes")
+    source = os.path.join(args.out, "altered.rs")
+    write(source, own("complex.rs"), part)
+    rustc(source, os.path.join(args.out, "oracle"), "--edition", "2021")
+    rustc(source, os.path.join(args.out, "oracle_platform"), "--edition", "2021", "--cfg", "platform_sine")
+    if args.num_complex:
+        source = os.path.join(args.out, "altered_num_complex.rs")
+        write(source, "use num_complex::Complex;\n", part)
+        traits = crate(args.num_complex, "num-traits", args.out, "--cfg", "has_i128")
+        numbers = crate(args.num_complex, "num-complex", args.out, "--edition", "2018", "--extern", f"num_traits={traits}")
+        rustc(source, os.path.join(args.out, "oracle_num_complex"), "--edition", "2021", "--extern", f"num_complex={numbers}", "-L", args.out)
 
 
 main()
