@@ -25,7 +25,8 @@ def published(name):
     solved = answer(name)
     vm = [abs(s[1] - p[0]) for s, p in zip(solved, PUBLISHED[name])]
     va = [abs(math.degrees(s[2]) - p[1]) for s, p in zip(solved, PUBLISHED[name])]
-    print(f"{name}: from the published table at most {max(vm):.5f} in magnitude (bus {vm.index(max(vm))}), {max(va):.3f} degrees (bus {va.index(max(va))})")
+    farthest = f"{max(vm):.5f} in magnitude (bus {vm.index(max(vm))}), {max(va):.3f} degrees (bus {va.index(max(va))})"
+    print(f"{name}: from the published table at most {farthest}")
 
 
 def binding(name):

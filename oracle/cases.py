@@ -12,11 +12,12 @@ import sys
 import families as f
 
 # One round of texts. The families of large texts share a slot.
-ROUND = [f.plain, f.plain, f.heavy, f.islands, f.no_slack, f.slacks, f.limits, f.limits, f.crossed, f.cascade, f.stored, f.diagonals, f.sparse,
-         f.shuffled, f.wild, f.distant, f.far_angle, f.far_angle, f.late, f.late, f.late, f.late, f.no_bus, f.length, f.trailer, f.alphabet, f.over, f.form,
-         f.field, f.beyond, f.struck]
+ROUND = [f.plain, f.plain, f.heavy, f.islands, f.no_slack, f.slacks, f.limits, f.limits, f.crossed, f.cascade, f.edge, f.exact, f.zeros,
+         f.stored, f.diagonals, f.sparse, f.shuffled, f.wild, f.distant, f.far_angle, f.far_angle, f.late, f.late, f.late, f.late, f.no_bus,
+         f.length, f.trailer, f.alphabet, f.over, f.form, f.field, f.beyond, f.struck]
 LARGE = [f.full, f.overflow, f.overflow, f.long, f.overflow, f.overflow, f.overflow, f.overflow]
-MET = "starts rounds steps halved unfit singular stuck at_max at_min back unsettled nan fifty nan_step inf_step nan_trial inf_trial far".split()
+MET = ("starts rounds steps halved unfit singular stuck at_max at_min back unsettled nan fifty nan_step inf_step nan_trial inf_trial far twelfth "
+       "zero equal q_within v_within kept").split()
 
 
 def texts(seed, count):
@@ -73,6 +74,7 @@ def network_classes(text):
         "two diagonals on a bus": len(diagonals) > len(set(diagonals)),
         "all tables full": [len(t) for t in (buses, slack_rows, gens, lines, triplets)] == [32, 32, 32, 64, 256],
         "a case start with ?": text[-38:-37] == b"C" and any("?" in r for r in buses),
+        "a case start with magnitude 0": text[-38:-37] == b"C" and any(r[6] == "0" for r in buses),
     }
 
 
@@ -85,10 +87,16 @@ def run_classes(text, answer, m):
         **{f"solved by start {s}": winner == s for s in ("F 1", "F 2", "F 3", "F 4", "F 5", "C 1", "C 2", "C 3", "C 4", "C 5", "C 6")},
         "a limit binds high": m["at_max"] > 0,
         "a limit binds low": m["at_min"] > 0,
+        "a power past its limit within the tolerance": m["q_within"] > 0,
         "a bus returns": m["back"] > 0,
+        "a voltage past the held one within the tolerance": m["v_within"] > 0,
+        "a second return is not given": m["kept"] > 0,
+        "rounds settle in the twelfth": m["twelfth"] > m["unsettled"],
         "rounds never settle": m["unsettled"] > 0,
         "a shortened step": m["halved"] > 0,
+        "a trial of the same mismatch": m["equal"] > 0,
         "an unfit trial": m["unfit"] > 0,
+        "a trial with magnitude 0": m["zero"] > 0,
         "no length helps": m["stuck"] > 0,
         "a singular matrix": m["singular"] > 0,
         "a fiftieth step": m["fifty"] > 0,
@@ -102,6 +110,7 @@ def run_classes(text, answer, m):
         "an infinite trial": m["inf_trial"] > 0,
         "solved after a NaN": ok and m["nan"] > 0,
         "solved with a NaN in the answer": ok and b"nan" in answer,
+        "solved with -0 in the answer": ok and b" 8000000000000000" in answer,
         "refused 10": answer.startswith(b"refused 10 "),
         "refused 10 with nan": answer.startswith(b"refused 10 nan"),
         "refused 10 with infinity": answer.startswith(b"refused 10 7ff0000000000000"),
@@ -150,10 +159,10 @@ def check(count):
         sys.exit("empty: " + ", ".join(empty))
 
 
-def print_late(oracle):
-    """Of the first rough cases: those that a flat start after the first solves, and still does when loads move a little."""
-    found = []
-    for seed in range(3500):
+def print_late(oracle, wanted=12):
+    """The first rough cases that each flat start after the first solves, and still does when loads move a little."""
+    found, seed = {k: [] for k in (2, 3, 4, 5)}, 0
+    while min(map(len, found.values())) < wanted:
         near = []
         for shift in (0, 1e-4, -1e-4):
             c = f.rough(seed)
@@ -163,9 +172,13 @@ def print_late(oracle):
             near.append(c.text())
         out, notes = answers(oracle, near)
         won = {m["starts"] if a.startswith(b"ok") else 0 for a, m in zip(out, notes)}
-        if len(won) == 1 and min(won) >= 2:
-            found.append(seed)
-    print("LATE =", found)
+        if len(won) == 1 and len(found.get(min(won), range(wanted))) < wanted:
+            found[min(won)].append(seed)
+        seed += 1
+    print("LATE = [")
+    for seeds in found.values():
+        print("    " + ", ".join(map(str, seeds)) + ",")
+    print("]")
 
 
 def main():

@@ -53,7 +53,8 @@ def samples(one, other):
     texts = [open(path, "rb").read() for path in paths]
     for path, x, y in zip(paths, cases.answers(one, texts)[0], cases.answers(other, texts)[0]):
         a, b = read(x), read(y)
-        print(f"{os.path.basename(path)}: {shown(differences(a, b))}; kinds {'the same' if a[1] == b[1] else 'DIFFERENT'}; iterations {a[0]} and {b[0]}")
+        kinds = "the same" if a[1] == b[1] else "DIFFERENT"
+        print(f"{os.path.basename(path)}: {shown(differences(a, b))}; kinds {kinds}; iterations {a[0]} and {b[0]}")
 
 
 def drawn(one, other, seed, count):

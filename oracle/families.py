@@ -130,29 +130,61 @@ def limits(rng):
 
 
 def crossed(rng):
-    """Limits near a point, some with qmin above qmax: a bus that returns soon breaks the other limit."""
-    c = network(rng, [rng.randrange(2, 7)], rng.uniform(0.3, 1.2), 0.01, 0.3)
-    for g in c.gens:
-        if rng.random() < 0.3:
-            g[1], g[2] = g[2], g[1]
+    """Every bus holds a voltage of its own within narrow limits, some with qmin above qmax: buses return, and would again."""
+    c = network(rng, [rng.randrange(3, 10)], rng.uniform(0.3, 2))
+    c.gens = []
+    for b, bus in enumerate(c.buses):
+        bus[:2] = ["V", rng.uniform(0.9, 1.15)]
+        middle, width = rng.uniform(-0.5, 0.5), rng.uniform(-0.2, 0.2)
+        c.gens.append([b, middle - width, middle + width])
     return c
 
 
 def cascade(rng):
     """A row of generators. Each, once held at its limit, hands what is lacking to the next: one switch a round, and over 12 rounds never settle."""
-    n, load, x = rng.choice([4, 7, 13, 14, 15, 16]), rng.uniform(0.2, 0.4), rng.uniform(0.005, 0.02)
+    n, load, x = rng.choice([4, 11, 12, 12, 13, 14]), rng.uniform(0.2, 0.4), rng.uniform(0.005, 0.02)
     lines = [(b, b + 1, 0.0, -1 / x) for b in range(n - 1)]
     buses = [["V", 1, 0, load if b == 0 else 0, 0, 0, "?", "?"] for b in range(n)]
     gens = [[b, -1, rng.uniform(0.002, 0.01)] for b in range(n - 1)]
     return Case(rng.choice("FC"), buses, [[n - 1, 0]], gens, [list(x[:2]) for x in lines], triplets(n, lines, [0] * n))
 
 
+def edge(rng):
+    """Two generators whose reactive power is known exactly, 0.5 and 0.25, with limits about 1e-6 from it."""
+    near = [0, 1e-7, 9e-7, 1e-6, 11e-7, 2e-6, 4e-6, 6e-6, 8e-6]
+    buses = [[kind, 1, rng.choice([0, "-0"]), qd, 0, 0, "?", "?"] for kind, qd in (("Q", 0), ("V", 0.25), ("V", 0.125))]
+    gens = [[b, q + rng.choice(near), 1] if rng.random() < 0.5 else [b, -1, q - rng.choice(near)] for b, q in ((1, 0.5), (2, 0.25))]
+    if rng.random() < 0.5:  # the first held high, the second held low and lifting the first's voltage
+        gens = [[1, -1, 0.5 - rng.choice([2e-6, 4e-6])], [2, 0.25 + rng.choice([4e-6, 6e-6, 8e-6]), 1]]
+    rows = triplets(3, [(0, 1, 0.0, -4.0), (1, 2, 0.0, -4.0)], [0, -0.25, -0.125])
+    return Case("F", buses, [[0, rng.choice([0, "-0"])]], gens, [[0, 1], [1, 2]], rows, 7)
+
+
+def exact(rng):
+    """A load bus with exact numbers, whose full step leads to a point of the same mismatch or to magnitude 0."""
+    own, mutual, vm, qd = rng.choice([(-4, 4, 0.75, 1.75), (-4, 4, 0.625, 1.1875), (-1, -1, 1, 1), (-2, -1, 1, 2)])
+    scale = rng.choice([1, 2, 4, 8])
+    buses = [["Q", 1, 0, 0, 0, 0, "?", "?"], ["Q", vm, rng.choice([0, "-0"]), qd * scale, 0, 0, "?", "?"]]
+    return Case("F", buses, [[0, rng.choice([0, "-0"])]], [], [[0, 1]], [[1, 1, 0, own * scale], [1, 0, 0, mutual * scale]], 4)
+
+
+def zeros(rng):
+    """Signed zeros: the angle of a bus without load, after one with load, ends as 0 or -0."""
+    zero = lambda: rng.choice([0, "-0"])
+    buses = [["V", 1, 0, 0, zero(), zero(), "?", "?"] for _ in range(3)]
+    buses[1][2] = rng.choice([0.5, -0.5])
+    rows = triplets(3, [(0, b, 0.0, rng.choice([4.0, -4.0])) for b in (1, 2)], [0] * 3)
+    rows[2][2] = zero()
+    return Case("F", buses, [[0, "-0"]], [], [[0, 1], [0, 2]], rows)
+
+
 def stored(rng):
-    """Case starts from odd stored values."""
+    """Case starts from odd stored values; with angles near the solution such a start may win."""
     c = network(rng, [rng.randrange(1, 6)], 0.5)
     c.start = "C"
+    angles = rng.choice([["?", 0.2, -3, 900, 1500], ["?", 0.05, 0.1, -0.1]])
     for b in c.buses:
-        b[6:] = [rng.choice(["?", 0, -1, 0.5, 1]), rng.choice(["?", 0.2, -3, 900, 1500])]
+        b[6:] = [rng.choice(["?", 0, -1, 0.5, 1]), rng.choice(angles)]
     return c
 
 
@@ -243,11 +275,12 @@ def rough(seed):
     return c
 
 
-# Seeds of rough cases that a later start solves, as `cases.py ORACLE late` prints them.
+# Seeds of rough cases that flat start 2, 3, 4 or 5 solves (a row each), as `cases.py ORACLE late` prints them.
 LATE = [
-    168, 243, 467, 481, 493, 618, 666, 711, 817, 878, 945, 951, 981, 1008, 1035, 1104, 1178, 1203, 1206, 1236, 1245, 1281,
-    1348, 1461, 1551, 1609, 1665, 1683, 1714, 1716, 1830, 1860, 1921, 1943, 1966, 1968, 2154, 2182, 2247, 2261, 2270, 2272, 2288, 2339,
-    2344, 2361, 2512, 2613, 2653, 2657, 2801, 2940, 3034, 3052, 3133, 3224, 3242, 3245, 3350, 3376, 3425, 3481, 3486,
+    168, 618, 666, 711, 817, 878, 945, 981, 1008, 1035, 1104, 1178,
+    481, 1206, 1281, 1461, 1665, 1714, 1860, 1968, 2247, 2270, 2272, 2613,
+    243, 493, 1921, 1966, 2154, 3034, 3052, 3425, 3625, 3739, 3847, 4061,
+    467, 951, 2657, 3486, 3860, 3875, 3949, 4150, 4555, 5234, 5405, 6575,
 ]
 
 
@@ -291,7 +324,7 @@ def long(rng):
     """The longest text that is not too long, and longer ones."""
     c = good(rng)
     s = c.sections()
-    s[4] += "0" * (rng.choice([32768, 32769, 32800]) - len(c.text()))
+    s[4] += "0" * (rng.choice([32768, 32769, 32769, 32800]) - len(c.text()))
     return join(c.start, s)
 
 
@@ -341,8 +374,8 @@ def field(rng):
     c = good(rng)
     rows = rng.choice([r for r in (c.buses, c.slacks, c.gens, c.lines, c.triplets) if r])
     row = rng.choice(rows)
-    row[rng.randrange(len(row))] = rng.choice(["1.", ".5", "-", "--1", "1-", "1.2.3", "-.", "-0", "0000000000000001", "1.00000000000000001", "00", "01", "1000",
-                                               "?", "B", "VQ", "Q1"])
+    row[rng.randrange(len(row))] = rng.choice(["1.", ".5", "-", "--1", "1-", "1.2.3", "-.", "-0", "0000000000000001", "1.00000000000000001", "00",
+                                               "01", "1000", "?", "B", "VQ", "Q1"])
     return c
 
 

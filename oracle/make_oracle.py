@@ -26,16 +26,22 @@ CHANGES = [
     ("the same", "        return Err(format!(\n            \"AC power flow did not converge: best mismatch {residual:.3e} over {start_count} starts\"\n        ));", "        return Err((residual, start_count));"),
     # observation only: counters that the solver never reads
     ("counts starts", "    for (vm0, va0) in starts {\n", "    for (vm0, va0) in starts {\n        met(|m| m.starts += 1);\n"),
-    ("counts rounds", "    for _ in 0..MAX_OUTER {\n", "    for _ in 0..MAX_OUTER {\n        met(|m| m.rounds += 1);\n"),
+    ("counts rounds and twelfth ones", "    for _ in 0..MAX_OUTER {\n", "    for round in 0..MAX_OUTER {\n        met(|m| { m.rounds += 1; m.twelfth += usize::from(round == MAX_OUTER - 1); });\n"),
     ("counts singular matrices", "            break; // singular Jacobian: stop at the best iterate so far", "            met(|m| m.singular += 1);\n            break; // singular Jacobian: stop at the best iterate so far"),
-    ("counts unfit trials", "any(|&x| x.is_nan()) {\n                alpha *= 0.5;\n                continue;", "any(|&x| x.is_nan()) {\n                met(|m| m.unfit += 1);\n                alpha *= 0.5;\n                continue;"),
+    ("counts unfit trials and those with a magnitude of 0", "any(|&x| x.is_nan()) {\n                alpha *= 0.5;\n                continue;", "any(|&x| x.is_nan()) {\n                met(|m| { m.unfit += 1; m.zero += usize::from(tvm.contains(&0.0)); });\n                alpha *= 0.5;\n                continue;"),
     ("counts steps, shortened ones and fiftieth ones", "                accepted = true;\n", "                accepted = true;\n                met(|m| { m.steps += 1; m.halved += usize::from(alpha < 1.0); m.fifty += usize::from(it == MAX_ITERS - 1); });\n"),
     ("counts directions with a NaN and with an infinity", "        // Backtracking line search: accept", "        met(|m| { m.nan_step += usize::from(dx.iter().any(|x| x.is_nan())); m.inf_step += usize::from(dx.iter().any(|x| x.is_infinite())); });\n        // Backtracking line search: accept"),
-    ("counts trials with a NaN and with an infinite norm", "            let tres = inf_norm(&tr);\n", "            let tres = inf_norm(&tr);\n            met(|m| { m.nan_trial += usize::from(tres.is_nan()); m.inf_trial += usize::from(tres.is_infinite()); });\n"),
+    ("counts trials with a NaN, an infinite and an unchanged norm", "            let tres = inf_norm(&tr);\n", "            let tres = inf_norm(&tr);\n            met(|m| { m.nan_trial += usize::from(tres.is_nan()); m.inf_trial += usize::from(tres.is_infinite()); m.equal += usize::from(tres == residual); });\n"),
     ("counts steps that no length helped", "            break; // no descent direction reduced the mismatch: stop", "            met(|m| m.stuck += 1);\n            break; // no descent direction reduced the mismatch: stop"),
     ("counts releases at qmax", "                    converted[b] = 1;\n", "                    converted[b] = 1;\n                    met(|m| m.at_max += 1);\n"),
     ("counts releases at qmin", "                    converted[b] = -1;\n", "                    converted[b] = -1;\n                    met(|m| m.at_min += 1);\n"),
     ("counts returns", "                    reverted[b] = true;\n", "                    reverted[b] = true;\n                    met(|m| m.back += 1);\n"),
+    ("counts values past a limit or a held voltage by at most the tolerance, and second returns that are not given", "            if kinds[b] == BusKind::Pv {\n", """            let past = |x: f64, tolerance: f64| (x > 0.0 && x <= tolerance, x > tolerance);
+            let q = if kinds[b] == BusKind::Pv { past((q_calc[b] + net.qd[b] - qmax_bus[b]).max(qmin_bus[b] - q_calc[b] - net.qd[b]), Q_TOL) } else { (false, false) };
+            let v = past((vm[b] - vm_hold[b]) * f64::from(converted[b]), V_BACK);
+            met(|m| { m.q_within += usize::from(q.0); m.v_within += usize::from(v.0); m.kept += usize::from(v.1 && reverted[b]); });
+            if kinds[b] == BusKind::Pv {
+"""),
     ("counts typings that never settled", "    if !settled {\n", "    if !settled {\n        met(|m| m.unsettled += 1);\n"),
     ("counts NaN residuals", "        result = (vm.clone(), va.clone(), kinds.clone(), iters, residual);\n", "        result = (vm.clone(), va.clone(), kinds.clone(), iters, residual);\n        if residual.is_nan() {\n            met(|m| m.nan += 1);\n        }\n"),
 ]

@@ -13,7 +13,7 @@ import sys
 import cases
 
 ROOT = os.path.join(os.path.dirname(os.path.abspath(__file__)), "..")
-SEED, COUNT = 9, 1122
+SEED, COUNT = 9, 1152
 
 
 def main():

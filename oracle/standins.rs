@@ -149,6 +149,12 @@ pub struct Met {
     pub nan_trial: usize,
     pub inf_trial: usize,
     pub far: usize,
+    pub twelfth: usize,
+    pub zero: usize,
+    pub equal: usize,
+    pub q_within: usize,
+    pub v_within: usize,
+    pub kept: usize,
 }
 
 thread_local! {
