@@ -184,7 +184,11 @@ fn main() {
         let a = answer(text);
         if counting {
             let m = MET.with(Cell::get);
-            notes += &format!("{} {} {} {} {} {} {} {} {} {} {} {}\n", m.starts, m.rounds, m.steps, m.halved, m.unfit, m.singular, m.stuck, m.at_max, m.at_min, m.back, m.unsettled, m.nan);
+            let all = [
+                m.starts, m.rounds, m.steps, m.halved, m.unfit, m.singular, m.stuck, m.at_max, m.at_min, m.back, m.unsettled, m.nan, m.fifty, m.nan_step,
+                m.inf_step, m.nan_trial, m.inf_trial, m.far, m.twelfth, m.zero, m.equal, m.q_within, m.v_within, m.kept,
+            ];
+            notes += &(all.map(|k| k.to_string()).join(" ") + "\n");
         }
         out.extend_from_slice(&(a.len() as u32).to_be_bytes());
         out.extend_from_slice(a.as_bytes());

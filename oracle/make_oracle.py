@@ -1,10 +1,15 @@
 #!/usr/bin/env python3
 """Makes the altered Rust from the repository's text, and builds it with the Rust compiler alone.
 
-Usage: python3 oracle/make_oracle.py PATH_TO_SRC [OUT]     PATH_TO_SRC holds crates/tellegen/src/.. of eigenergy/tellegen; OUT is target/oracle
+Usage: python3 oracle/make_oracle.py PATH_TO_SRC [OUT] [--num-complex CRATES]
+PATH_TO_SRC holds crates/tellegen/src/.. of eigenergy/tellegen; OUT is target/oracle.
 Writes OUT/altered.rs (find and dense_islands of islands.rs, all of pf_ac.rs, changed only as listed in CHANGES) and builds OUT/oracle and
 OUT/oracle_platform (the same with the platform's sine and cosine). None of the repository's text is kept here.
+With --num-complex it builds OUT/oracle_num_complex too: the platform's sine and cosine, and the crate num_complex itself in place of complex.rs.
+CRATES is a folder with the sources of num-complex and num-traits (Debian: librust-num-complex-dev puts them in /usr/share/cargo/registry).
 """
+import argparse
+import glob
 import os
 import re
 import subprocess
@@ -21,14 +26,22 @@ CHANGES = [
     ("the same", "        return Err(format!(\n            \"AC power flow did not converge: best mismatch {residual:.3e} over {start_count} starts\"\n        ));", "        return Err((residual, start_count));"),
     # observation only: counters that the solver never reads
     ("counts starts", "    for (vm0, va0) in starts {\n", "    for (vm0, va0) in starts {\n        met(|m| m.starts += 1);\n"),
-    ("counts rounds", "    for _ in 0..MAX_OUTER {\n", "    for _ in 0..MAX_OUTER {\n        met(|m| m.rounds += 1);\n"),
+    ("counts rounds and twelfth ones", "    for _ in 0..MAX_OUTER {\n", "    for round in 0..MAX_OUTER {\n        met(|m| { m.rounds += 1; m.twelfth += usize::from(round == MAX_OUTER - 1); });\n"),
     ("counts singular matrices", "            break; // singular Jacobian: stop at the best iterate so far", "            met(|m| m.singular += 1);\n            break; // singular Jacobian: stop at the best iterate so far"),
-    ("counts unfit trials", "any(|&x| x.is_nan()) {\n                alpha *= 0.5;\n                continue;", "any(|&x| x.is_nan()) {\n                met(|m| m.unfit += 1);\n                alpha *= 0.5;\n                continue;"),
-    ("counts steps and shortened ones", "                accepted = true;\n", "                accepted = true;\n                met(|m| { m.steps += 1; if alpha < 1.0 { m.halved += 1; } });\n"),
+    ("counts unfit trials and those with a magnitude of 0", "any(|&x| x.is_nan()) {\n                alpha *= 0.5;\n                continue;", "any(|&x| x.is_nan()) {\n                met(|m| { m.unfit += 1; m.zero += usize::from(tvm.contains(&0.0)); });\n                alpha *= 0.5;\n                continue;"),
+    ("counts steps, shortened ones and fiftieth ones", "                accepted = true;\n", "                accepted = true;\n                met(|m| { m.steps += 1; m.halved += usize::from(alpha < 1.0); m.fifty += usize::from(it == MAX_ITERS - 1); });\n"),
+    ("counts directions with a NaN and with an infinity", "        // Backtracking line search: accept", "        met(|m| { m.nan_step += usize::from(dx.iter().any(|x| x.is_nan())); m.inf_step += usize::from(dx.iter().any(|x| x.is_infinite())); });\n        // Backtracking line search: accept"),
+    ("counts trials with a NaN, an infinite and an unchanged norm", "            let tres = inf_norm(&tr);\n", "            let tres = inf_norm(&tr);\n            met(|m| { m.nan_trial += usize::from(tres.is_nan()); m.inf_trial += usize::from(tres.is_infinite()); m.equal += usize::from(tres == residual); });\n"),
     ("counts steps that no length helped", "            break; // no descent direction reduced the mismatch: stop", "            met(|m| m.stuck += 1);\n            break; // no descent direction reduced the mismatch: stop"),
     ("counts releases at qmax", "                    converted[b] = 1;\n", "                    converted[b] = 1;\n                    met(|m| m.at_max += 1);\n"),
     ("counts releases at qmin", "                    converted[b] = -1;\n", "                    converted[b] = -1;\n                    met(|m| m.at_min += 1);\n"),
     ("counts returns", "                    reverted[b] = true;\n", "                    reverted[b] = true;\n                    met(|m| m.back += 1);\n"),
+    ("counts values past a limit or a held voltage by at most the tolerance, and second returns that are not given", "            if kinds[b] == BusKind::Pv {\n", """            let past = |x: f64, tolerance: f64| (x > 0.0 && x <= tolerance, x > tolerance);
+            let q = if kinds[b] == BusKind::Pv { past((q_calc[b] + net.qd[b] - qmax_bus[b]).max(qmin_bus[b] - q_calc[b] - net.qd[b]), Q_TOL) } else { (false, false) };
+            let v = past((vm[b] - vm_hold[b]) * f64::from(converted[b]), V_BACK);
+            met(|m| { m.q_within += usize::from(q.0); m.v_within += usize::from(v.0); m.kept += usize::from(v.1 && reverted[b]); });
+            if kinds[b] == BusKind::Pv {
+"""),
     ("counts typings that never settled", "    if !settled {\n", "    if !settled {\n        met(|m| m.unsettled += 1);\n"),
     ("counts NaN residuals", "        result = (vm.clone(), va.clone(), kinds.clone(), iters, residual);\n", "        result = (vm.clone(), va.clone(), kinds.clone(), iters, residual);\n        if residual.is_nan() {\n            met(|m| m.nan += 1);\n        }\n"),
 ]
@@ -39,12 +52,8 @@ def take(text, start, end):
     return text[i:text.index(end, i) + len(end)]
 
 
-def main():
-    if len(sys.argv) < 2:
-        sys.exit(__doc__)
-    src = os.path.join(sys.argv[1], "crates", "tellegen", "src")
-    out = sys.argv[2] if len(sys.argv) > 2 else os.path.join(HERE, "..", "target", "oracle")
-    os.makedirs(out, exist_ok=True)
+def altered(src):
+    """The repository's part of the program."""
     islands = open(os.path.join(src, "model", "islands.rs")).read()
     pf_ac = open(os.path.join(src, "problem", "pf_ac.rs")).read()
     for what, old, new in CHANGES:
@@ -52,14 +61,50 @@ def main():
             sys.exit(f"{pf_ac.count(old)} places for: {what}")
         pf_ac = pf_ac.replace(old, new)
     pf_ac = re.sub(r"^//!.*\n", "", pf_ac, flags=re.M)
-    find = take(islands, "fn find(parent", "\n}\n")
-    dense = take(islands, "pub(crate) fn dense_islands", "\n}\n")
-    text = "#![allow(dead_code, unused_imports, unexpected_cfgs)]\n" + open(os.path.join(HERE, "standins.rs")).read() + find + dense + pf_ac + open(os.path.join(HERE, "driver.rs")).read()
-    with open(os.path.join(out, "altered.rs"), "w") as f:
-        f.write(text)
-    for name, flags in (("oracle", []), ("oracle_platform", ["--cfg", "platform_sine"])):
-        subprocess.run(["rustc", "--edition", "2021", "-O", "-C", "llvm-args=-fp-contract=off", *flags, "-o", os.path.join(out, name), os.path.join(out, "altered.rs")], check=True)
-    print(f"{len(CHANGES)} changes; built {out}/oracle and {out}/oracle_platform")
+    return take(islands, "fn find(parent", "\n}\n") + take(islands, "pub(crate) fn dense_islands", "\n}\n") + pf_ac
+
+
+def own(name):
+    return open(os.path.join(HERE, name)).read()
+
+
+def write(path, numbers, part):
+    with open(path, "w") as f:
+        f.write("#![allow(dead_code, unused_imports, unexpected_cfgs)]\n" + own("standins.rs") + numbers + part + own("driver.rs"))
+
+
+def rustc(source, out, *flags):
+    subprocess.run(["rustc", "-O", "-C", "llvm-args=-fp-contract=off", *flags, "-o", out, source], check=True)
+    print("built", os.path.relpath(out))
+
+
+def crate(crates, name, out, *flags):
+    """Builds a crate of the folder as a library."""
+    source, = glob.glob(os.path.join(crates, f"{name}-[0-9]*", "src", "lib.rs"))
+    library = os.path.join(out, f"lib{name.replace('-', '_')}.rlib")
+    rustc(source, library, "--crate-name", name.replace("-", "_"), "--crate-type", "rlib", "--cap-lints", "allow", "--cfg", 'feature="std"', *flags)
+    return library
+
+
+def main():
+    args = argparse.ArgumentParser(description=__doc__, formatter_class=argparse.RawDescriptionHelpFormatter)
+    args.add_argument("src")
+    args.add_argument("out", nargs="?", default=os.path.join(HERE, "..", "target", "oracle"))
+    args.add_argument("--num-complex")
+    args = args.parse_args()
+    os.makedirs(args.out, exist_ok=True)
+    part = altered(os.path.join(args.src, "crates", "tellegen", "src"))
+    print(f"{len(CHANGES)} changes")
+    source = os.path.join(args.out, "altered.rs")
+    write(source, own("complex.rs"), part)
+    rustc(source, os.path.join(args.out, "oracle"), "--edition", "2021")
+    rustc(source, os.path.join(args.out, "oracle_platform"), "--edition", "2021", "--cfg", "platform_sine")
+    if args.num_complex:
+        source = os.path.join(args.out, "altered_num_complex.rs")
+        write(source, "use num_complex::Complex;\n", part)
+        traits = crate(args.num_complex, "num-traits", args.out, "--cfg", "has_i128")
+        numbers = crate(args.num_complex, "num-complex", args.out, "--edition", "2018", "--extern", f"num_traits={traits}")
+        rustc(source, os.path.join(args.out, "oracle_num_complex"), "--edition", "2021", "--extern", f"num_complex={numbers}", "-L", args.out)
 
 
 main()

@@ -1,18 +1,19 @@
-// What the ported Rust leans on, as document 01 says it: complex numbers, sine and cosine, the linear solve, the network's tables.
+// What the ported Rust leans on, as document 01 says it: sine and cosine, the linear solve, the network's tables. Complex numbers are in complex.rs.
 // Written for the oracle alone; no proved code takes part.
 use std::cell::Cell;
 use std::collections::HashMap;
-use std::ops::{Add, AddAssign, Mul, Neg, Sub};
 
 // ---- sine and cosine (01, "Sine and cosine"), or the platform's with --cfg platform_sine
 
 #[cfg(platform_sine)]
 pub fn sin_cos(x: f64) -> (f64, f64) {
+    met(|m| m.far += usize::from(x.abs() > 1024.0));
     x.sin_cos()
 }
 
 #[cfg(not(platform_sine))]
 pub fn sin_cos(x: f64) -> (f64, f64) {
+    met(|m| m.far += usize::from(x.abs() > 1024.0));
     if x.is_nan() || x.abs() > 1024.0 {
         return (f64::NAN, f64::NAN);
     }
@@ -42,64 +43,6 @@ pub fn sin_cos(x: f64) -> (f64, f64) {
         1 => (c, -s),
         2 => (-s, -c),
         _ => (-c, s),
-    }
-}
-
-// ---- complex numbers (01, "The solver": product and polar number), under the names of num_complex
-
-#[derive(Clone, Copy, Debug)]
-pub struct Complex<T> {
-    pub re: T,
-    pub im: T,
-}
-
-impl Complex<f64> {
-    pub fn new(re: f64, im: f64) -> Self {
-        Complex { re, im }
-    }
-    pub fn i() -> Self {
-        Complex { re: 0.0, im: 1.0 }
-    }
-    pub fn conj(&self) -> Self {
-        Complex { re: self.re, im: -self.im }
-    }
-    pub fn from_polar(r: f64, theta: f64) -> Self {
-        let (s, c) = sin_cos(theta);
-        Complex { re: r * c, im: r * s }
-    }
-}
-
-impl Mul for Complex<f64> {
-    type Output = Self;
-    fn mul(self, o: Self) -> Self {
-        Complex { re: self.re * o.re - self.im * o.im, im: self.re * o.im + self.im * o.re }
-    }
-}
-
-impl Add for Complex<f64> {
-    type Output = Self;
-    fn add(self, o: Self) -> Self {
-        Complex { re: self.re + o.re, im: self.im + o.im }
-    }
-}
-
-impl Sub for Complex<f64> {
-    type Output = Self;
-    fn sub(self, o: Self) -> Self {
-        Complex { re: self.re - o.re, im: self.im - o.im }
-    }
-}
-
-impl Neg for Complex<f64> {
-    type Output = Self;
-    fn neg(self) -> Self {
-        Complex { re: -self.re, im: -self.im }
-    }
-}
-
-impl AddAssign for Complex<f64> {
-    fn add_assign(&mut self, o: Self) {
-        *self = *self + o;
     }
 }
 
@@ -200,6 +143,18 @@ pub struct Met {
     pub back: usize,
     pub unsettled: usize,
     pub nan: usize,
+    pub fifty: usize,
+    pub nan_step: usize,
+    pub inf_step: usize,
+    pub nan_trial: usize,
+    pub inf_trial: usize,
+    pub far: usize,
+    pub twelfth: usize,
+    pub zero: usize,
+    pub equal: usize,
+    pub q_within: usize,
+    pub v_within: usize,
+    pub kept: usize,
 }
 
 thread_local! {

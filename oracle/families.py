@@ -1,0 +1,405 @@
+"""Families of case texts (document 01, "Case text"): networks of every kind that the solver treats apart, and damaged texts.
+
+A family is a function of a random source that gives a Case or a text. oracle/cases.py draws from them.
+"""
+import random
+
+
+class Case:
+    """A case with numbers in its cells; a cell may be text too, such as ?."""
+
+    def __init__(self, start, buses, slacks, gens, lines, triplets, digits=4):
+        self.start, self.buses, self.slacks, self.gens, self.lines, self.triplets, self.digits = start, buses, slacks, gens, lines, triplets, digits
+
+    def sections(self):
+        return ["".join(" ".join([letter, *(cell(x, self.digits) for x in row)]) + "\n" for row in rows)
+                for letter, rows in zip("BRGLY", (self.buses, self.slacks, self.gens, self.lines, self.triplets))]
+
+    def text(self):
+        return join(self.start, self.sections())
+
+
+def cell(x, digits):
+    """A field: text and bus numbers as they are, a real near x else."""
+    if not isinstance(x, float):
+        return str(x)
+    s = f"{x:.{digits}f}".rstrip("0").rstrip(".")
+    return "0" if s in ("", "-0") else s
+
+
+def join(start, sections):
+    """The text of five sections, with its trailer."""
+    out, places = "", []
+    for s in sections:
+        places.append(len(out.encode()))
+        out += s
+    places.append(len(out.encode()))
+    return (out + start + "".join(f" {p:05d}" for p in places) + "\n").encode()
+
+
+# ---- networks
+
+def meshed(rng, first, n):
+    """The lines (from, to, g, b) of n buses from first on: a random tree and some more lines."""
+    pairs = [(rng.randrange(b), b) for b in range(1, n)]
+    pairs += [rng.sample(range(n), 2) for _ in range(rng.randrange(max(1, n // 2)) if n > 2 else 0)]
+    out = []
+    for f, t in pairs:
+        r, x = rng.uniform(0.005, 0.05), rng.uniform(0.05, 0.25)
+        d = r * r + x * x
+        out.append((first + f, first + t, r / d, -x / d))
+    return out
+
+
+def triplets(n, lines, shunts):
+    """A diagonal entry per bus, then the two entries of each line."""
+    diagonal = [[0.0, float(b)] for b in shunts]
+    off = []
+    for f, t, g, b in lines:
+        for end in (f, t):
+            diagonal[end][0] += g
+            diagonal[end][1] += b
+        off += [[f, t, -g, -b], [t, f, -g, -b]]
+    return [[b, b, *diagonal[b]] for b in range(n)] + off
+
+
+def network(rng, sizes, load, width=2.0, middle=0.0):
+    """Islands of the given sizes with one slack each; width and middle shape the generators' limits."""
+    n, lines, slacks, first = sum(sizes), [], [], 0
+    for size in sizes:
+        lines += meshed(rng, first, size)
+        slacks.append([first + rng.randrange(size), rng.choice([0.0, 0.0, rng.uniform(-0.5, 0.5)])])
+        first += size
+    share, buses, gens = load / n ** 0.5, [], []
+    for b in range(n):
+        generator = rng.random() < 0.4
+        stored = [rng.uniform(0.9, 1.1), rng.uniform(-0.6, 0.6)] if rng.random() < 0.8 else ["?", "?"]
+        buses.append(["V" if generator or rng.random() < 0.1 else "Q", rng.uniform(0.95, 1.08), rng.uniform(0, share), rng.uniform(-0.1, 0.5 * share),
+                      rng.uniform(0, share) if generator else 0.0, rng.choice([0.0, 0.0, rng.uniform(-0.1, 0.3)]), *stored])
+        for _ in range(rng.choice([1, 1, 1, 2, 3]) if generator or rng.random() < 0.1 else 0):
+            mid = rng.uniform(-middle, middle)
+            gens.append([b, mid - width * rng.random(), mid + width * rng.random()])
+    shunts = [rng.uniform(0, 0.05) for _ in range(n)]
+    return Case(rng.choice("FFC"), buses, slacks, gens[:32], [list(x[:2]) for x in lines], triplets(n, lines, shunts), rng.choice([3, 4, 4, 6, 11]))
+
+
+def small(rng):
+    return rng.choice([1, 2, 2, 3, 3, 4, 5, 6, 8])
+
+
+def plain(rng):
+    return network(rng, [small(rng)], rng.uniform(0.3, 1.2))
+
+
+def sized(rng, n):
+    return network(rng, [n], rng.uniform(0.3, 1.2))
+
+
+def heavy(rng):
+    return network(rng, [small(rng)], rng.choice([3.0, 8.0]))
+
+
+def islands(rng):
+    return network(rng, [rng.randrange(1, 5) for _ in range(rng.choice([2, 3]))], rng.uniform(0.3, 1.2))
+
+
+def no_slack(rng):
+    """An island without slack. One without load and shunts is solved where it starts."""
+    c = network(rng, [rng.randrange(1, 4) for _ in range(rng.choice([1, 2]))], 0.5)
+    c.slacks = c.slacks[1:]
+    if rng.random() < 0.7:
+        c.triplets = [t for t in c.triplets if t[0] == t[1]]
+        for t in c.triplets:
+            t[2] = t[3] = 0.0
+        for b in c.buses:
+            b[2:6] = [0.0] * 4
+    return c
+
+
+def slacks(rng):
+    """Several slack rows in one island, the same bus twice among them at times."""
+    c = network(rng, [rng.randrange(2, 7)], 0.6)
+    for _ in range(rng.choice([1, 1, 2, 3])):
+        c.slacks.insert(rng.randrange(2), [rng.randrange(len(c.buses)), rng.uniform(-0.3, 0.3)])
+    return c
+
+
+def limits(rng):
+    """Narrow limits, which bind high and low."""
+    return network(rng, [rng.randrange(2, 9)], rng.uniform(0.3, 1.2), 0.05, 0.3)
+
+
+def crossed(rng):
+    """Every bus holds a voltage of its own within narrow limits, some with qmin above qmax: buses return, and would again."""
+    c = network(rng, [rng.randrange(3, 10)], rng.uniform(0.3, 2))
+    c.gens = []
+    for b, bus in enumerate(c.buses):
+        bus[:2] = ["V", rng.uniform(0.9, 1.15)]
+        middle, width = rng.uniform(-0.5, 0.5), rng.uniform(-0.2, 0.2)
+        c.gens.append([b, middle - width, middle + width])
+    return c
+
+
+def cascade(rng):
+    """A row of generators. Each, once held at its limit, hands what is lacking to the next: one switch a round, and over 12 rounds never settle."""
+    n, load, x = rng.choice([4, 11, 12, 12, 13, 14]), rng.uniform(0.2, 0.4), rng.uniform(0.005, 0.02)
+    lines = [(b, b + 1, 0.0, -1 / x) for b in range(n - 1)]
+    buses = [["V", 1, 0, load if b == 0 else 0, 0, 0, "?", "?"] for b in range(n)]
+    gens = [[b, -1, rng.uniform(0.002, 0.01)] for b in range(n - 1)]
+    return Case(rng.choice("FC"), buses, [[n - 1, 0]], gens, [list(x[:2]) for x in lines], triplets(n, lines, [0] * n))
+
+
+def edge(rng):
+    """Two generators whose reactive power is known exactly, 0.5 and 0.25, with limits about 1e-6 from it."""
+    near = [0, 1e-7, 9e-7, 1e-6, 11e-7, 2e-6, 4e-6, 6e-6, 8e-6]
+    buses = [[kind, 1, rng.choice([0, "-0"]), qd, 0, 0, "?", "?"] for kind, qd in (("Q", 0), ("V", 0.25), ("V", 0.125))]
+    gens = [[b, q + rng.choice(near), 1] if rng.random() < 0.5 else [b, -1, q - rng.choice(near)] for b, q in ((1, 0.5), (2, 0.25))]
+    if rng.random() < 0.5:  # the first held high, the second held low and lifting the first's voltage
+        gens = [[1, -1, 0.5 - rng.choice([2e-6, 4e-6])], [2, 0.25 + rng.choice([4e-6, 6e-6, 8e-6]), 1]]
+    rows = triplets(3, [(0, 1, 0.0, -4.0), (1, 2, 0.0, -4.0)], [0, -0.25, -0.125])
+    return Case("F", buses, [[0, rng.choice([0, "-0"])]], gens, [[0, 1], [1, 2]], rows, 7)
+
+
+def exact(rng):
+    """A load bus with exact numbers, whose full step leads to a point of the same mismatch or to magnitude 0."""
+    own, mutual, vm, qd = rng.choice([(-4, 4, 0.75, 1.75), (-4, 4, 0.625, 1.1875), (-1, -1, 1, 1), (-2, -1, 1, 2)])
+    scale = rng.choice([1, 2, 4, 8])
+    buses = [["Q", 1, 0, 0, 0, 0, "?", "?"], ["Q", vm, rng.choice([0, "-0"]), qd * scale, 0, 0, "?", "?"]]
+    return Case("F", buses, [[0, rng.choice([0, "-0"])]], [], [[0, 1]], [[1, 1, 0, own * scale], [1, 0, 0, mutual * scale]], 4)
+
+
+def zeros(rng):
+    """Signed zeros: the angle of a bus without load, after one with load, ends as 0 or -0."""
+    zero = lambda: rng.choice([0, "-0"])
+    buses = [["V", 1, 0, 0, zero(), zero(), "?", "?"] for _ in range(3)]
+    buses[1][2] = rng.choice([0.5, -0.5])
+    rows = triplets(3, [(0, b, 0.0, rng.choice([4.0, -4.0])) for b in (1, 2)], [0] * 3)
+    rows[2][2] = zero()
+    return Case("F", buses, [[0, "-0"]], [], [[0, 1], [0, 2]], rows)
+
+
+def stored(rng):
+    """Case starts from odd stored values; with angles near the solution such a start may win."""
+    c = network(rng, [rng.randrange(1, 6)], 0.5)
+    c.start = "C"
+    angles = rng.choice([["?", 0.2, -3, 900, 1500], ["?", 0.05, 0.1, -0.1]])
+    for b in c.buses:
+        b[6:] = [rng.choice(["?", 0, -1, 0.5, 1]), rng.choice(angles)]
+    return c
+
+
+def diagonals(rng):
+    """Two diagonal triplets on a bus, at times none on another."""
+    c = network(rng, [rng.randrange(1, 6)], 0.5)
+    n = len(c.buses)
+    twice = rng.randrange(n)
+    if rng.random() < 0.3 and n > 1:
+        c.triplets = [t for t in c.triplets if t[0] != t[1] or t[0] != (twice + 1) % n]
+    c.triplets.insert(rng.randrange(len(c.triplets) + 1), [twice, twice, 0.0, rng.uniform(-0.2, 0.2)])
+    return c
+
+
+def sparse(rng):
+    """Most triplets are missing, or all are zero: singular matrices."""
+    c = network(rng, [rng.randrange(2, 6)], 0.5)
+    if rng.random() < 0.2:
+        c.triplets = [[i, k, 0.0, 0.0] for i, k, _, _ in c.triplets]
+    else:
+        c.triplets = [t for t in c.triplets if rng.random() < 0.4]
+    return c
+
+
+def shuffled(rng):
+    c = network(rng, [small(rng)], 0.8)
+    rng.shuffle(c.triplets)
+    return c
+
+
+def wild(rng):
+    """Values of every size."""
+    c = network(rng, [rng.randrange(1, 6)], 0.8)
+    for b in c.buses:
+        b[1] = rng.choice([b[1], 0, -1, 1e9, 1e-4, 99999999999999, 2000])
+        b[2] = rng.choice([b[2], 99999999999999, -99999999999999, 0])
+    for t in c.triplets:
+        factor = rng.choice([1, 1, 1e8, 0, 1e-3])
+        t[2], t[3] = t[2] * factor, t[3] * factor
+    c.digits = 6
+    return c
+
+
+def distant(rng):
+    """A lone load bus whose start is very high: each step about halves it, so that it takes around 50 steps."""
+    g, b = rng.uniform(0.1, 1), rng.uniform(-9, -1)
+    power = rng.choice([12.6, 13.1, 13.3, 13.4, 13.5, 13.6, 13.8, 14.4])
+    buses = [["Q", 1, 0, 0, 0, 0, "?", "?"], ["Q", int(10 ** (power + rng.uniform(-0.1, 0.1))), 0, 0, 0, 0, rng.choice(["?", 1]), "?"]]
+    return Case("F", buses, [[0, 0]], [], [[0, 1]], triplets(2, [(0, 1, g, b)], [0, 0]))
+
+
+def far_angle(rng):
+    """References near or beyond 1024 radians, where sine and cosine are NaN. Cut off from the slack, the other buses may be solved at a start whose
+    angles all lie within. A second island may break its limits while the first one's mismatch is NaN."""
+    c = network(rng, rng.choice([[1], [2], [3], [4], [2, 3]]), 0.3, 0.05, 0.3)
+    c.slacks[0][1] = rng.choice([1, -1]) * rng.choice([2000, 1024, 1024.02, 1024.04, 1024.06, 1023.98, 1023])
+    if len(c.slacks) == 1 and rng.random() < 0.6:
+        c.triplets = [[b, b, 0, 0] for b in range(len(c.buses))]
+        for b in c.buses:
+            b[2:6] = [0] * 4
+    return c
+
+
+def overflow(rng):
+    """A chain in which each bus leans on the next about 1e15 times more than on itself, so that the direction grows towards the end of the doubles
+    and beyond. On V buses the angles grow, on Q buses the magnitudes."""
+    n, kind, big = rng.choice([13, 16, 24, 25]), rng.choice("VQ"), 99999999999999
+    own, back = (-big / 2, rng.choice([-0.1, -0.2, -0.3])) if kind == "Q" else (0, 0.1 - big)
+    rows = [[0, 0, 0, 0], [n - 1, n - 1, 0, -1], [n - 1, 0, 0, 1]]
+    for b in range(1, n - 1):
+        rows += [[b, b, 0, own], [b, b + 1, 0, big], [b, 0, 0, back]]
+    if rng.random() < 0.4:
+        rows.append([1, 3, 0, -big])  # infinity less infinity
+    buses = [[kind, 1, 0.5 if kind == "V" else 0, -0.5, 0, 0, "?", "?"] for _ in range(n)]
+    return Case("F", buses, [[0, 0]], [], [], rows, 1)
+
+
+def rough(seed):
+    """Set points far from 1 and stored values far from both: which start wins hangs on the last digits."""
+    rng = random.Random(seed)
+    c = network(rng, [rng.randrange(3, 9)], 0.1)
+    share, low, high = rng.uniform(0.1, 0.6), rng.choice([0.02, 0.1, 0.3]), rng.choice([1.0, 1.2, 3.0])
+    c.gens, c.slacks[0][1], c.digits = [], 0.0, 4
+    for b in c.buses:
+        b[0] = rng.choice("QQQQV")
+        b[1:4] = [rng.uniform(low, high), rng.uniform(-share, share), rng.uniform(-share, share) / 2]
+        b[6:] = [rng.uniform(0.3, 1.5), rng.uniform(-3, 3)]
+    return c
+
+
+# Seeds of rough cases that flat start 2, 3, 4 or 5 solves (a row each), as `cases.py ORACLE late` prints them.
+LATE = [
+    168, 618, 666, 711, 817, 878, 945, 981, 1008, 1035, 1104, 1178,
+    481, 1206, 1281, 1461, 1665, 1714, 1860, 1968, 2247, 2270, 2272, 2613,
+    243, 493, 1921, 1966, 2154, 3034, 3052, 3425, 3625, 3739, 3847, 4061,
+    467, 951, 2657, 3486, 3860, 3875, 3949, 4150, 4555, 5234, 5405, 6575,
+]
+
+
+def late(rng):
+    """Near a rough case that a later start solves, or any rough case."""
+    c = rough(rng.choice(LATE) if rng.random() < 0.7 else rng.randrange(1 << 30))
+    c.start = rng.choice("FC")
+    for b in c.buses:
+        b[2] += rng.choice([0, 0.0001, -0.0001])
+    return c
+
+
+def full(rng):
+    """Every table full."""
+    c = network(rng, [32], rng.uniform(0.3, 0.8))
+    c.slacks = [list(c.slacks[0]) for _ in range(32)]
+    c.gens += [[rng.randrange(32), -0.5, 0.5] for _ in range(32 - len(c.gens))]
+    c.lines += [list(c.lines[0]) for _ in range(64 - len(c.lines))]
+    c.triplets += [[*rng.sample(range(32), 2), 0, 0] for _ in range(256 - len(c.triplets))]
+    return c
+
+
+def no_bus(rng):
+    """Zero buses: solved with nothing in the answer, or refused where a row names a bus."""
+    return Case(rng.choice("FC"), [], rng.choice([[], [], [[0, 0]]]), [], [], [])
+
+
+# ---- damaged texts
+
+def good(rng):
+    return network(rng, [rng.randrange(1, 4)], 0.5)
+
+
+def length(rng):
+    """Short texts, and the shortest length that is long enough."""
+    t = good(rng).text()
+    return t[len(t) - rng.choice([0, 1, 2, 36, 37, 38]):] if rng.random() < 0.7 else t[:rng.randrange(38)]
+
+
+def long(rng):
+    """The longest text that is not too long, and longer ones."""
+    c = good(rng)
+    s = c.sections()
+    s[4] += "0" * (rng.choice([32768, 32769, 32769, 32800]) - len(c.text()))
+    return join(c.start, s)
+
+
+def trailer(rng):
+    """A byte of the trailer changed, or the wrong starts."""
+    t = bytearray(good(rng).text())
+    t[len(t) - 38 + rng.randrange(38)] = rng.choice(b"0123456789 FCG\n")
+    return bytes(t)
+
+
+def alphabet(rng):
+    """A byte that no body holds."""
+    c = good(rng)
+    s = c.sections()
+    i = rng.choice([i for i in range(5) if s[i]])
+    at = rng.randrange(len(s[i]))
+    s[i] = s[i][:at] + rng.choice(["\u2212", "\u2013", "\t", "\r", "e", "+", ",", "b", "\0", "S", "_"]) + s[i][at + rng.randrange(2):]
+    return join(c.start, s)
+
+
+def over(rng):
+    """A row over the size of a table, at times a wrong one."""
+    c = Case("F", [["Q", 1, 0, 0, 0, 0, "?", "?"]], [[0, 0]], [], [], [[0, 0, 2, -8]])
+    rows, row, size = rng.choice([(c.buses, ["Q", 1, 0, 0, 0, 0, 1, 0], 32), (c.slacks, [0, 0], 32), (c.gens, [0, -1, 1], 32), (c.lines, [0, 0], 64),
+                                  (c.triplets, [0, 0, 0, 0], 256)])
+    rows += [row] * (size - len(rows))
+    rows.append(rng.choice([row, row + [0], [""]]))
+    return c
+
+
+def form(rng):
+    """A line of the wrong form, or a section that ends within a line."""
+    c = good(rng)
+    s = c.sections()
+    i = rng.choice([i for i in range(5) if s[i]])
+    lines = s[i].splitlines(keepends=True)
+    k = rng.randrange(len(lines))
+    x = lines[k]
+    lines[k] = rng.choice([x[1:], x.replace(" ", "  ", 1), x[:-1] + " \n", " " + x, x + "\n", x[:-1] + " 0\n", x.rsplit(" ", 1)[0] + "\n",
+                           rng.choice("BRGLYQ") + x[1:], x[:-1]])
+    s[i] = "".join(lines)
+    return join(c.start, s)
+
+
+def field(rng):
+    """One wrong field."""
+    c = good(rng)
+    rows = rng.choice([r for r in (c.buses, c.slacks, c.gens, c.lines, c.triplets) if r])
+    row = rng.choice(rows)
+    row[rng.randrange(len(row))] = rng.choice(["1.", ".5", "-", "--1", "1-", "1.2.3", "-.", "-0", "0000000000000001", "1.00000000000000001", "00",
+                                               "01", "1000", "?", "B", "VQ", "Q1"])
+    return c
+
+
+def beyond(rng):
+    """A bus number that is not below the bus count."""
+    c = good(rng)
+    c.gens.append([0, -1, 1])
+    rows = rng.choice([r for r in (c.slacks, c.gens, c.lines, c.triplets) if r])
+    row = rng.choice(rows)
+    row[rng.randrange(2) if rows in (c.lines, c.triplets) else 0] = rng.choice([len(c.buses), len(c.buses) + 1, 32, 33, 999])
+    return c
+
+
+def struck(rng):
+    """A good text after an accident: a byte changed, lost or added, or the end cut off."""
+    t = bytearray(good(rng).text())
+    at = rng.randrange(len(t))
+    how = rng.randrange(4)
+    if how == 0:
+        t[at] = rng.randrange(256)
+    elif how == 1:
+        del t[at]
+    elif how == 2:
+        t.insert(at, rng.choice(b" \n-.0159?BRGLYVQx"))
+    else:
+        del t[at:]
+    return bytes(t)
