@@ -30,7 +30,7 @@ refusal (Check.Field n) k h = refl
 abbrev pub Refused : Reading → Type 0
 Refused v = OneOf (1 ∷ 2 ∷ 3 ∷ 4 ∷ 5 ∷ 6 ∷ 7 ∷ []) (tagOf reading-type v)
 
-not-refused : {A : Type 0} (c : Tables) → Refused (Reading.Good c) → A
+pub not-refused : {A : Type 0} (c : Tables) → Refused (Reading.Good c) → A
 not-refused c h =
     absurd
     (⊎-elim (λ e. eqb-false 0 1 refl e)

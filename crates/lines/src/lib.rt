@@ -112,7 +112,7 @@ pub fn put_buses(
     out: &mut [u8],
 ) -> usize
     requires { ⌜ (n ≤ length (now vm)) × (n ≤ length (now va)) × (n ≤ length (now p)) × (n ≤ length (now q)) × (n ≤ length (now kinds)) × (at + 91 * n ≤ length (now out)) ⌝ }
-    ensures { λ r. ⌜ Wrote (now (out .entry)) at (busesOf n (now (vm .entry)) (now (va .entry)) (now (p .entry)) (now (q .entry)) (now (kinds .entry))) r (now (out .exit)) ⌝ }
+    ensures { λ r. ⌜ Wrote (now (out .entry)) at (busesOf n (now (vm .entry)) (now (va .entry)) (now (p .entry)) (now (q .entry)) (now (kinds .entry))) r (now (out .exit)) × (r ≤ at + 91 * n) ⌝ }
 {
     let mut k = at;
     for b in 0..n {
@@ -133,7 +133,7 @@ fn put_head(number: usize, out: &mut [u8]) -> usize
 // A refusal with nothing beside its number.
 pub fn put_bare(number: usize, out: &mut [u8]) -> usize
     requires { ⌜ 29 ≤ length (now out) ⌝ }
-    ensures { λ r. ⌜ Wrote (now (out .entry)) 0 (refusedOf number []) r (now (out .exit)) ⌝ }
+    ensures { λ r. ⌜ Wrote (now (out .entry)) 0 (refusedOf number []) r (now (out .exit)) × (r ≤ 29) ⌝ }
 {
     let a = put_head(number, out);
     put_byte(10, a, out)
@@ -142,7 +142,7 @@ pub fn put_bare(number: usize, out: &mut [u8]) -> usize
 // A refusal with a place of the text.
 pub fn put_placed(number: usize, place: usize, out: &mut [u8]) -> usize
     requires { ⌜ 50 ≤ length (now out) ⌝ }
-    ensures { λ r. ⌜ Wrote (now (out .entry)) 0 (refusedOf number (whole place ∷ [])) r (now (out .exit)) ⌝ }
+    ensures { λ r. ⌜ Wrote (now (out .entry)) 0 (refusedOf number (whole place ∷ [])) r (now (out .exit)) × (r ≤ 50) ⌝ }
 {
     let a = put_head(number, out);
     let b = put_count(place, a, out);
@@ -152,7 +152,7 @@ pub fn put_placed(number: usize, place: usize, out: &mut [u8]) -> usize
 // A refusal with a mismatch and a count of starts.
 pub fn put_spent(number: usize, mismatch: f64, starts: usize, out: &mut [u8]) -> usize
     requires { ⌜ 67 ≤ length (now out) ⌝ }
-    ensures { λ r. ⌜ Wrote (now (out .entry)) 0 (refusedOf number (real mismatch ∷ whole starts ∷ [])) r (now (out .exit)) ⌝ }
+    ensures { λ r. ⌜ Wrote (now (out .entry)) 0 (refusedOf number (real mismatch ∷ whole starts ∷ [])) r (now (out .exit)) × (r ≤ 67) ⌝ }
 {
     let a = put_head(number, out);
     let b = put_gap(mismatch, a, out);

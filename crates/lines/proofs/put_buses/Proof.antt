@@ -31,7 +31,7 @@ returns : tie.Need-returns Inv-loop μ-loop
 returns c =
     let l = c .before .loop in
     let e : l .b ≡ c .before .before .before .before .before .before .before .before .args .n = omega arith in
-    rw (← e) (l .inv .3)
+    rw (← e) (l .inv .3, l .inv .2)
 
 pub put-buses-spec : {M : Type 1} → statement M
 put-buses-spec = tie.close (tie.spec Inv-loop μ-loop loop-holds (λ c. search needs) (λ c. search needs) (λ c. search needs) (λ c. search needs) (λ c. search needs) (λ c. search needs) (λ c. search needs) (λ c. search needs) (λ c. search needs) (λ c κs. search needs) (λ c. search needs) (λ c. search needs) loop-again (λ c. search needs) returns)

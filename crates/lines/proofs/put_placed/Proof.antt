@@ -1,4 +1,5 @@
 -- `lines::put_placed` meets its contract: one value stands between the head and the line's end. Assumes nothing.
+use native.Mathlib.Omega.{arith}
 use borrow.Author.Needs.{needs}
 use Rattle.tables.specs.Tables.{whole}
 use Rattle.lines.specs.Lines.Laws.{then, one-value}
@@ -10,7 +11,7 @@ returns c =
     let d = c .before .before in
     let b = d .before .before .before .before in
     let a = b .before .before .before .before in
-    one-value _ (whole _) (then (then (a .put-head .ensures .0) (b .put-count .ensures .0)) (d .put-byte .ensures))
+    (one-value _ (whole _) (then (then (a .put-head .ensures .0) (b .put-count .ensures .0)) (d .put-byte .ensures)), omega (arith, a .put-head .ensures .1, b .put-count .ensures .1, d .put-byte .ensures .ends))
 
 pub put-placed-spec : {M : Type 1} → statement M
 put-placed-spec = tie.close (tie.spec (λ c κs. search needs) (λ c κs. search needs) (λ c κs. search needs) (λ c. search needs) returns)

@@ -1,4 +1,5 @@
 -- `lines::put_spent` meets its contract: two values stand between the head and the line's end. Assumes nothing.
+use native.Mathlib.Omega.{arith}
 use borrow.Author.Needs.{needs}
 use Rattle.tables.specs.Tables.{whole, real}
 use Rattle.lines.specs.Lines.Laws.{then, two-values}
@@ -11,7 +12,7 @@ returns c =
     let d = e .before .before .before .before in
     let b = d .before .before .before .before in
     let a = b .before .before .before .before in
-    two-values _ (real _) (whole _) (then (then (then (a .put-head .ensures .0) (b .put-gap .ensures .0)) (d .put-count .ensures .0)) (e .put-byte .ensures))
+    (two-values _ (real _) (whole _) (then (then (then (a .put-head .ensures .0) (b .put-gap .ensures .0)) (d .put-count .ensures .0)) (e .put-byte .ensures)), omega (arith, a .put-head .ensures .1, b .put-gap .ensures .1, d .put-count .ensures .1, e .put-byte .ensures .ends))
 
 pub put-spent-spec : {M : Type 1} → statement M
 put-spent-spec = tie.close (tie.spec (λ c κs. search needs) (λ c κs. search needs) (λ c κs. search needs) (λ c κs. search needs) (λ c. search needs) returns)

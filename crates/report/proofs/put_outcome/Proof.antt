@@ -1,0 +1,28 @@
+-- `report::put_outcome` meets its contract: each case by its number, a solved one with its buses. Assumes nothing.
+use native.Mathlib.Omega.{arith}
+use borrow.Author.Needs.{needs}
+use Rattle.lines.specs.Lines.Laws.{then}
+use Rattle.report.proofs.put_outcome.Statement.{statement}
+use Rattle.report.proofs.put_outcome.Tie as tie
+
+returns : tie.Need-returns
+returns c =
+    let p = c .before .before in
+    let o = p .before .before .before .before in
+    let s = o .before .before .before .before .before .before .before .before .before .before .before in
+    (rw (o .before .before .before .r .given .1) (then (o .put-ok .ensures .0) (p .put-buses .ensures .0)), omega (arith, s .pre .0, o .put-ok .ensures .1, p .put-buses .ensures .1))
+
+returns-2 : tie.Need-returns-2
+returns-2 c = let p = c .before .before in (rw (p .before .before .enum-told .given .1) (p .put-bare .ensures .0), omega (arith, p .put-bare .ensures .1))
+
+returns-3 : tie.Need-returns-3
+returns-3 c = let p = c .before .before in (rw (p .before .before .enum-told2 .given .1) (p .put-bare2 .ensures .0), omega (arith, p .put-bare2 .ensures .1))
+
+returns-4 : tie.Need-returns-4
+returns-4 c = let p = c .before .before in (rw (p .before .before .enum-told3 .given .1) (p .put-bare3 .ensures .0), omega (arith, p .put-bare3 .ensures .1))
+
+returns-5 : tie.Need-returns-5
+returns-5 c = let p = c .before .before in (rw (p .before .before .before .r2 .given .1) (p .put-spent .ensures .0), omega (arith, p .put-spent .ensures .1))
+
+pub put-outcome-spec : {M : Type 1} → statement M
+put-outcome-spec = tie.close (tie.spec (λ c. search needs) (λ c κs. search needs) (λ c κs. search needs) (λ c. search needs) (λ c κs. search needs) (λ c. search needs) (λ c κs. search needs) (λ c. search needs) (λ c κs. search needs) (λ c. search needs) (λ c κs. search needs) (λ c. search needs) returns (λ c. search needs) returns-2 (λ c. search needs) returns-3 (λ c. search needs) returns-4 (λ c. search needs) returns-5)
