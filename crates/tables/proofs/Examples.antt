@@ -3,9 +3,8 @@ use Prim.Native.Nat.{ℕ}
 use mathlib.Core.Bool.{Bool, true, cond}
 use mathlib.Core.Path.{_≡_, ap}
 use mathlib.Core.List.{List, [], _∷_}
-use lib.Dec.{leb}
 use lib.IntN.{pos}
-use lib.ListN.{length}
+use lib.ListN.{set}
 use lib.Ieee.{Float, nan, binary64, ofInt, ofBits, add, sub, mul, div, neg, lt, le, isNan}
 use Rattle.real.specs.Norm.{normOf}
 use Rattle.real.specs.Real.{absolute}
@@ -27,7 +26,7 @@ use Rattle.tables.specs.Tables.{Outs, outs, answer, ok, refused, both, a
 use Rattle.pf_ac.specs.declared.AcStart.the-variants.{Flat}
 
 -- a whole number as a double
-abbrev whole : ℕ → Float
+abbrev pub whole : ℕ → Float
 whole n = ofInt binary64 (pos n)
 
 abbrev pub listing : Network
@@ -35,12 +34,11 @@ listing =
     network (81 ∷ []) (whole 1 ∷ []) (whole 0 ∷ []) (whole 0 ∷ []) (whole 0 ∷ []) (whole 0 ∷ []) (nan ∷ []) (nan ∷ []) (0 ∷ []) (whole 0 ∷ []) [] [] [] [] []
     (0 ∷ []) (0 ∷ []) (whole 2 ∷ []) (neg (whole 8) ∷ []) Flat
 
--- answer columns of one place each
-abbrev pub row : Float → Float → Float → Float → ℕ → Outs
-row vm va p q kind = outs (vm ∷ []) (va ∷ []) (p ∷ []) (q ∷ []) (kind ∷ [])
+-- the columns with the bus's voltage, powers and letter (83 is S) in their first places
+abbrev pub row : Outs → Outs
+row o = outs (set (o .vm) 0 (whole 1)) (set (o .va) 0 (whole 0)) (set (o .p) 0 (whole 2)) (set (o .q) 0 (whole 8)) (set (o .kinds) 0 83)
 
--- whatever stood in the columns and in the workspace; 83 is the letter S
-pub listing-solved : (a b c d : Float) (k : ℕ) (w : List Float) → leb 6144 (length w) ≡ true →
-    solveOf listing (row a b c d k) w ≡ answer (ok 0 (whole 0)) (row (whole 1) (whole 0) (whole 2) (whole 8) 83) (zeros w)
-unfolding normOf absolute sinCosOf groupOf lowest tally each labelsOf listed kindsOf angleCount magnitudeCount layoutOf sumAt hasGen limitsOf stores voltagesOf currentsTo phasorsOf injectedOf measuredOf stepsFrom newtonOf moveOf movesOf anyMove pinned lettersOf roundOf roundsFrom qlimOf angleOf referencesOf flatOf acPfOf startOf betterOf tryOf searchFrom searchOf both allBelow counted roomy numbered writtenOf ranOf solveOf ofInt ofBits add sub mul div neg lt le isNan
-listing-solved a b c d k w h = ap (λ (r : Bool). cond r (ranOf listing (row a b c d k) w (acPfOf listing w)) (answer (refused 9 []) (row a b c d k) w)) h
+-- whatever stood in the columns and in the workspace
+pub listing-solved : (o : Outs) (w : List Float) → roomy listing o w ≡ true → solveOf listing o w ≡ answer (ok 0 (whole 0)) (row o) (zeros w)
+unfolding normOf absolute sinCosOf groupOf lowest tally each labelsOf listed kindsOf angleCount magnitudeCount layoutOf sumAt hasGen limitsOf stores voltagesOf currentsTo phasorsOf injectedOf measuredOf stepsFrom newtonOf moveOf movesOf anyMove pinned lettersOf roundOf roundsFrom qlimOf angleOf referencesOf flatOf acPfOf startOf betterOf tryOf searchFrom searchOf both allBelow counted numbered writtenOf ranOf solveOf ofInt ofBits add sub mul div neg lt le isNan
+listing-solved o w h = ap (λ (r : Bool). cond r (ranOf listing o w (acPfOf listing w)) (answer (refused 9 []) o w)) h

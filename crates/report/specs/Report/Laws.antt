@@ -1,6 +1,6 @@
 -- What the report's parts are, and that its contract fixes everything. Assumes nothing.
 use Prim.Native.Nat.{ℕ, _≤_}
-use mathlib.Core.Path.{_≡_, sym, ap}
+use mathlib.Core.Path.{_≡_, sym, ap, _∙_}
 use mathlib.Core.List.{List}
 use mathlib.Core.Bool.{true}
 use borrow.Author.Tests.{leb-true}
@@ -16,9 +16,11 @@ use Rattle.case_text.specs.Answer as Reader
 use Rattle.case_text.specs.Answer.{Columns, roomOf, fitsOf, readOf}
 use Rattle.pf_ac.specs.declared.AcStart.{AcStart}
 use Rattle.tables.specs.declared.Outcome.{Outcome}
+use Rattle.pf_ac.specs.Network.Withheld.{Alike}
+use Rattle.tables.specs.Tables.Withheld.{solve-withheld}
 use Rattle.tables.specs.Tables.{Outs, Answer, answer, paperOf, solveOf}
 use Rattle.lines.specs.Lines.{Wrote}
-use Rattle.report.specs.Report.{startOf, networkBy, blank, blanks, Few, printedOf, solvedOf, reportOf, Reported}
+use Rattle.report.specs.Report.{Report, startOf, networkBy, networkOf, blank, blanks, Few, printedOf, answeredOf, solvedOf, reportOf, Reported}
 
 -- a part of a column that is long enough
 pub cut : {A : Type 0} (n m : ℕ) (l : List A) → n ≤ m → length l ≡ m → n ≡ length (take n l)
@@ -49,3 +51,18 @@ module _ (s : List ℕ) (w : List Float) (r : Reading) (read : Columns) (h : Rea
       → Reported (reportOf s w) before end after v
   unfolding reportOf
   good-is c e p = rw (← h, e) p
+
+-- ---- the contract fixes everything
+
+-- two outcomes that meet the report's contract are equal: how many bytes, the buffer and the workspace
+pub report-one : (r : Report) (before after₁ after₂ : List ℕ) (end₁ end₂ : ℕ) (space₁ space₂ : List Float) → Reported r before end₁ after₁ space₁ → Reported r before end₂ after₂ space₂
+    → (end₁ ≡ end₂) × (after₁ ≡ after₂) × (space₁ ≡ space₂)
+report-one r before after₁ after₂ end₁ end₂ space₁ space₂ p q =
+    (p .written .ends ∙ sym (q .written .ends), p .written .left ∙ sym (q .written .left), p .left ∙ sym (q .left))
+
+-- ---- demand 3, of what is printed
+
+-- tables that differ only in 01's withheld columns print the same bytes and leave the same workspace
+pub printed-withheld : (c : Tables) (read read′ : Columns) (w : List Float) → Alike (networkOf c read) (networkOf c read′) → solvedOf c read w ≡ solvedOf c read′ w
+unfolding solvedOf
+printed-withheld c read read′ w a = ap (answeredOf (c .buses)) (solve-withheld (networkOf c read) (networkOf c read′) a blanks w)

@@ -1,0 +1,43 @@
+-- 01's listing by computation, from the 73 bytes of the text to the two lines that are printed. Assumes nothing.
+use Prim.Native.Nat.{ℕ}
+use mathlib.Core.Bool.{true}
+use mathlib.Core.Path.{_≡_, refl, ap, _∙_}
+use mathlib.Core.List.{List, [], _∷_, _++_}
+use lib.Dec.{leb}
+use lib.ListN.{length}
+use lib.Ieee.{Float, isNan, neg, ofInt, ofBits, toBits}
+use Rattle.case_text.proofs.Examples.{listing, listing-tables, listing-columns, listing-read}
+use Rattle.tables.specs.Tables.{Answer, ok, both, roomy, zeros}
+use Rattle.tables.proofs.Examples as Solved
+use Rattle.lines.specs.Lines.{decimalBy, realOf, okOf, busOf, busesOf}
+use Rattle.report.specs.Report.{Report, networkOf, blank, blanks, printedOf, answeredOf, readingOf, solvedOf, reportOf}
+
+-- `ok 0 0000000000000000`
+abbrev pub first-line : List ℕ
+first-line =
+    111 ∷ 107 ∷ 32 ∷ 48 ∷ 32 ∷ 48 ∷ 48 ∷ 48 ∷ 48 ∷ 48 ∷ 48 ∷ 48 ∷ 48 ∷ 48 ∷ 48 ∷ 48 ∷ 48 ∷ 48 ∷ 48 ∷ 48 ∷ 48 ∷ 10 ∷ []
+
+-- `0 S 3ff0000000000000 0000000000000000 4000000000000000 4020000000000000`
+abbrev pub second-line : List ℕ
+second-line =
+    48 ∷ 32 ∷ 83 ∷ 32 ∷ 51 ∷ 102 ∷ 102 ∷ 48 ∷ 48 ∷ 48 ∷ 48 ∷ 48 ∷ 48 ∷ 48 ∷ 48 ∷ 48 ∷ 48 ∷ 48 ∷ 48 ∷ 48 ∷ 32 ∷ 48 ∷ 48 ∷ 48 ∷ 48 ∷ 48 ∷ 48 ∷ 48 ∷ 48 ∷ 48 ∷ 48 ∷ 48 ∷ 48 ∷ 48 ∷ 48 ∷ 48 ∷ 48 ∷ 32 ∷ 52 ∷ 48 ∷ 48 ∷ 48 ∷ 48 ∷ 48 ∷ 48 ∷ 48 ∷ 48 ∷ 48 ∷ 48 ∷ 48 ∷ 48 ∷ 48 ∷ 48 ∷ 48 ∷ 32 ∷ 52 ∷ 48 ∷ 50 ∷ 48 ∷ 48 ∷ 48 ∷ 48 ∷ 48 ∷ 48 ∷ 48 ∷ 48 ∷ 48 ∷ 48 ∷ 48 ∷ 48 ∷ 48 ∷ 10 ∷ []
+
+-- the tables that the reader gives are those that the solve is computed on
+same-network : networkOf listing-tables (listing-columns blank) ≡ Solved.listing
+unfolding ofInt ofBits neg
+same-network = refl
+
+same-lines : printedOf 1 (ok 0 (Solved.whole 0)) (Solved.row blanks) ≡ first-line ++ second-line
+unfolding okOf busesOf busOf decimalBy realOf isNan toBits ofInt ofBits
+same-lines = refl
+
+room : (w : List Float) → leb 6144 (length w) ≡ true → roomy Solved.listing blanks w ≡ true
+unfolding roomy both
+room w h = h
+
+-- whatever stood in the workspace
+pub listing-reported : (w : List Float) → leb 6144 (length w) ≡ true → reportOf listing w ≡ record { bytes = first-line ++ second-line; space = zeros w }
+unfolding reportOf solvedOf
+listing-reported w h =
+    ap (λ r. readingOf r w) (listing-read blank refl)
+    ∙ rw same-network (ap (answeredOf 1) (Solved.listing-solved blanks w (room w h)) ∙ rw same-lines refl)
