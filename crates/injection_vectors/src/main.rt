@@ -2,9 +2,10 @@
 // says (oracle/injection_vectors.py has the format).
 ghost use mathlib.Core.Path.{_≡_};
 ghost use Prim.Native.Nat.{_+_, _*_, _≤_, _<_};
-ghost use lib.ListN.{length};
+ghost use lib.ListN.{length, replicate};
 ghost use Rattle.layout.specs.Table.{Below};
 ghost use Rattle.injections.specs.Injections.{ybus, Good};
+ghost use Rattle.real.specs.Literals.{nought};
 ghost use Rattle.vectors.specs.Words.{wordOf, Tells};
 ghost use Rattle.injection_vectors.specs.Told.{wordsTold, doublesTold, tableTold, columnsTold, columnTold, layoutTold, injectionsTold, ybusTold, placeTold, Holds, Fits, injectionsAt, jacobianAt, Entries, Agrees, Found};
 use injections::Column;
@@ -266,13 +267,13 @@ fn told_agrees(
 
 // Room for a column of triplets.
 fn numbers() -> [usize; 256]
-    ensures { λ r. ⌜ 256 ≡ length r ⌝ }
+    ensures { λ r. ⌜ (r ≡ replicate 256 0) × (256 ≡ length r) ⌝ }
 {
     [0; 256]
 }
 
 fn parts() -> [f64; 256]
-    ensures { λ r. ⌜ 256 ≡ length r ⌝ }
+    ensures { λ r. ⌜ (r ≡ replicate 256 nought) × (256 ≡ length r) ⌝ }
 {
     [0.0; 256]
 }
@@ -340,7 +341,7 @@ fn next(head: &mut [u8], body: &mut [u8]) -> u64
 
 // Room for the largest point.
 fn room() -> [u8; 44032]
-    ensures { λ r. ⌜ 44032 ≡ length r ⌝ }
+    ensures { λ r. ⌜ (r ≡ replicate 44032 0) × (44032 ≡ length r) ⌝ }
 {
     [0; 44032]
 }

@@ -2,7 +2,7 @@
 // (oracle/linsolve_vectors.py has the format). Places outside a system hold a mark of their own, which must stay.
 ghost use mathlib.Core.Path.{_≡_};
 ghost use Prim.Native.Nat.{_+_, _*_, _≤_, _<_};
-ghost use lib.ListN.{length};
+ghost use lib.ListN.{length, replicate};
 ghost use Rattle.vectors.specs.Words.{wordOf, Tells};
 ghost use Rattle.linsolve_vectors.specs.Told.{sizeOf, slotOf, markOf, toldOf, Holds, numberOf, Agrees, Found};
 use libc::STDIN_FILENO;
@@ -130,7 +130,7 @@ fn next(head: &mut [u8], body: &mut [u8]) -> u64
 
 // Room for the largest system, twice.
 fn room() -> [u8; 66560]
-    ensures { λ r. ⌜ 66560 ≡ length r ⌝ }
+    ensures { λ r. ⌜ (r ≡ replicate 66560 0) × (66560 ≡ length r) ⌝ }
 {
     [0; 66560]
 }
