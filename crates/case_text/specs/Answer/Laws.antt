@@ -11,7 +11,8 @@ use lib.ListN.{length}
 use lib.Seq.{slice}
 use borrow.Author.Tests.{leb-true}
 use Rattle.fields.specs.Cut.Laws.{decided, and-left, and-right}
-use Rattle.rows.specs.Printed.Laws.{section-rows}
+use Rattle.rows.specs.Asked.{sizeOf}
+use Rattle.rows.specs.Printed.Laws.{section-rows, section-most}
 use Rattle.rows.specs.declared.Section.{Section}
 use Rattle.rows.specs.declared.Section.the-variants as Section
 use Rattle.rows.specs.declared.Check.the-variants as Check
@@ -51,6 +52,16 @@ fitting s m c h = rw h at (room-sound s m (textOf s) (text-sound s))
 part-rows : (z : Section) (s : List ℕ) (t n : ℕ) → partOf z s t ≡ Check.Good n → n ≡ rowCount (bytesOf z s t)
 unfolding partOf
 part-rows z s t n h = section-rows z (startOf z s t) (bytesOf z s t) n h
+
+part-most : (z : Section) (s : List ℕ) (t n : ℕ) → partOf z s t ≡ Check.Good n → n ≤ sizeOf z
+unfolding partOf
+part-most z s t n h = section-most z (startOf z s t) (bytesOf z s t) n h
+
+-- the rows of an accepted text are within the sizes
+pub rows-most : (s : List ℕ) (t : ℕ) (c : Tables) → Accepted s t c → (c .buses ≤ 32) × (c .slacks ≤ 32) × (c .generators ≤ 32) × (c .branches ≤ 64) × (c .triplets ≤ 256)
+rows-most s t c a =
+    let b = a .body in
+    (part-most Section.B s t _ (b .buses), part-most Section.R s t _ (b .slacks), part-most Section.G s t _ (b .generators), part-most Section.L s t _ (b .branches), part-most Section.Y s t _ (b .triplets))
 
 pub record Placed (s : List ℕ) (m : Room) (p : Places) : Type 0 where
   pub br : p .b ≤ p .r

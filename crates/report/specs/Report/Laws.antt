@@ -1,9 +1,9 @@
 -- What the report's parts are, and that its contract fixes everything. Assumes nothing.
-use Prim.Native.Nat.{ℕ, _≤_}
-use mathlib.Core.Path.{_≡_, sym, ap, _∙_}
-use mathlib.Core.List.{List}
-use mathlib.Core.Bool.{true}
-use borrow.Author.Tests.{leb-true}
+use Prim.Native.Nat.{ℕ, _-_, _≤_}
+use mathlib.Core.Path.{_≡_, refl, sym, ap, _∙_}
+use mathlib.Core.List.{List, []}
+use mathlib.Core.Bool.{true, cond}
+use borrow.Author.Tests.{leb-true, le-leb, eq-eqb}
 use lib.Dec.{leb}
 use lib.ListN.{length, take}
 use Rattle.fields.specs.Cut.Laws.{and-left, and-right}
@@ -13,14 +13,18 @@ use Rattle.case_text.specs.declared.Tables.{Tables}
 use Rattle.case_text.specs.declared.Reading.{Reading}
 use Rattle.case_text.specs.declared.Reading.the-variants as Reading
 use Rattle.case_text.specs.Answer as Reader
-use Rattle.case_text.specs.Answer.{Columns, roomOf, fitsOf, readOf}
+use Rattle.case_text.specs.Text.{textOf}
+use Rattle.case_text.specs.Text.Laws.{Accepted, Where, text-sound}
+use Rattle.case_text.specs.Answer.{Columns, columns, roomOf, fitsOf, withRoom, judgedOf, readOf}
+use Rattle.case_text.specs.Answer.Laws.{rows-most}
 use Rattle.pf_ac.specs.declared.AcStart.{AcStart}
 use Rattle.tables.specs.declared.Outcome.{Outcome}
 use Rattle.pf_ac.specs.Network.Withheld.{Alike}
 use Rattle.tables.specs.Tables.Withheld.{solve-withheld}
-use Rattle.tables.specs.Tables.{Outs, Answer, answer, paperOf, solveOf}
+use Rattle.pf_ac.specs.Network.{acPfOf}
+use Rattle.tables.specs.Tables.{Outs, refused, both, counted, roomy, numbered, Answer, answer, paperOf, ranOf, solveOf}
 use Rattle.lines.specs.Lines.{Wrote}
-use Rattle.report.specs.Report.{Report, startOf, networkBy, networkOf, blank, blanks, Few, printedOf, answeredOf, solvedOf, reportOf, Reported}
+use Rattle.report.specs.Report.{Report, startOf, networkBy, networkOf, blank, blanks, Few, Full, printedOf, answeredOf, solvedOf, reportOf, Reported}
 
 -- a part of a column that is long enough
 pub cut : {A : Type 0} (n m : ℕ) (l : List A) → n ≤ m → length l ≡ m → n ≡ length (take n l)
@@ -51,6 +55,39 @@ module _ (s : List ℕ) (w : List Float) (r : Reading) (read : Columns) (h : Rea
       → Reported (reportOf s w) before end after v
   unfolding reportOf
   good-is c e p = rw (← h, e) p
+
+-- ---- refusals 7 and 9 are not met by a text
+
+pub reader-never-9 : (s : List ℕ) → judgedOf s (roomOf blank) ≡ textOf s
+reader-never-9 s = go (textOf s) (text-sound s)
+  where
+    go : (v : Reading) → Where (Accepted s (length s - 38)) v → withRoom v (roomOf blank) ≡ v
+    go (Reading.Good c) a = let f = rows-most s _ c a in rw (le-leb (c .buses) 32 (f .0), le-leb (c .slacks) 32 (f .1), le-leb (c .generators) 32 (f .2), le-leb (c .branches) 64 (f .3), le-leb (c .triplets) 256 (f .4)) refl
+    go (Reading.Length at) a = refl
+    go (Reading.Trailer at) a = refl
+    go (Reading.Byte at) a = refl
+    go (Reading.Rows at) a = refl
+    go (Reading.Form at) a = refl
+    go (Reading.Field at) a = refl
+    go Reading.Short a = refl
+
+counted-read : (c : Tables) (read : Columns) → Few c → Full read → counted (networkOf c read) ≡ true
+unfolding counted both
+counted-read c (columns kind vmSet pd qd pg qg vmCase vaCase slacks vaSlacks genBus qmin qmax brFrom brTo yRow yCol yRe yIm) f g =
+    rw
+    (← cut (c .buses) 32 kind (f .0) (g .0), ← cut (c .buses) 32 vmSet (f .0) (g .1), ← cut (c .buses) 32 pd (f .0) (g .2), ← cut (c .buses) 32 qd (f .0) (g .3), ← cut (c .buses) 32 pg (f .0) (g .4), ← cut (c .buses) 32 qg (f .0) (g .5), ← cut (c .buses) 32 vmCase (f .0) (g .6), ← cut (c .buses) 32 vaCase (f .0) (g .7), ← cut (c .slacks) 32 slacks (f .1) (g .8), ← cut (c .slacks) 32 vaSlacks (f .1) (g .9), ← cut (c .generators) 32 genBus (f .2) (g .10), ← cut (c .generators) 32 qmin (f .2) (g .11), ← cut (c .generators) 32 qmax (f .2) (g .12), ← cut (c .branches) 64 brFrom (f .3) (g .13), ← cut (c .branches) 64 brTo (f .3) (g .14), ← cut (c .triplets) 256 yRow (f .4) (g .15), ← cut (c .triplets) 256 yCol (f .4) (g .16), ← cut (c .triplets) 256 yRe (f .4) (g .17), ← cut (c .triplets) 256 yIm (f .4) (g .18), le-leb (c .buses) 32 (f .0), le-leb (c .slacks) 32 (f .1), le-leb (c .generators) 32 (f .2), le-leb (c .branches) 64 (f .3), le-leb (c .triplets) 256 (f .4), eq-eqb (c .buses) (c .buses) refl, eq-eqb (c .slacks) (c .slacks) refl, eq-eqb (c .generators) (c .generators) refl, eq-eqb (c .branches) (c .branches) refl, eq-eqb (c .triplets) (c .triplets) refl)
+    refl
+
+roomy-blanks : (c : Tables) (read : Columns) (w : List Float) → Few c → Full read → leb 6144 (length w) ≡ true → roomy (networkOf c read) blanks w ≡ true
+unfolding roomy both
+roomy-blanks c (columns kind vmSet pd qd pg qg vmCase vaCase slacks vaSlacks genBus qmin qmax brFrom brTo yRow yCol yRe yIm) w f g h =
+    rw (← cut (c .buses) 32 kind (f .0) (g .0), le-leb (c .buses) 32 (f .0), h) refl
+
+pub solve-never-7-9 : (c : Tables) (read : Columns) (w : List Float) → Few c → Full read → leb 6144 (length w) ≡ true
+    → solveOf (networkOf c read) blanks w
+    ≡ cond (numbered (networkOf c read)) (ranOf (networkOf c read) blanks w (acPfOf (networkOf c read) w)) (answer (refused 8 []) blanks w)
+unfolding solveOf
+solve-never-7-9 c read w f g h = rw (counted-read c read f g, roomy-blanks c read w f g h) refl
 
 -- ---- the contract fixes everything
 

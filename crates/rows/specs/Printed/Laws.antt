@@ -4,12 +4,12 @@ use mathlib.Core.Path.{_≡_, refl, sym, ap, _∙_}
 use mathlib.Core.Bool.{Bool, true, false, cond, and-false}
 use mathlib.Core.Logic.{⊎-elim}
 use mathlib.Core.List.{List, [], _∷_, _++_, map}
-use Prim.Native.Nat.{ℕ, zero, suc, _+_, _<_}
+use Prim.Native.Nat.{ℕ, zero, suc, _+_, _≤_, _<_}
 use native.Mathlib.Omega.{arith}
 use native.Mathlib.Nat.{not-suc-le-zero, le-of-suc-le-suc, add-zero, zero-add}
 use lib.Dec.{eqb, leb}
 use lib.ListN.{length, getD}
-use borrow.Author.Tests.{eqb-true}
+use borrow.Author.Tests.{eqb-true, leb-false}
 use Rattle.fields.specs.Cut.{empty, only, pieces, onto}
 use Rattle.fields.specs.Cut.Laws.{decided, true-false, and-left, and-right}
 use Rattle.rows.specs.Asked.{letterOf, countOf, sizeOf, wantOf, goodOf}
@@ -127,6 +127,21 @@ lines-count t r at (l ∷ m ∷ ms) n g h =
 -- what an accepted section answers is the number of its rows
 pub section-rows : (t : Section) (at : ℕ) (l : List ℕ) (n : ℕ) → checkOf t at l ≡ Check.Good n → n ≡ length (rowsOf l)
 section-rows t at l n h = let e = lines-count t 0 at (pieces 10 l) n (pieces-some 10 l) h in omega arith
+
+lines-most : (t : Section) (r at : ℕ) (ps : List (List ℕ)) (n : ℕ) → none ps ≡ false → r ≤ sizeOf t → sectionOf t r at ps ≡ Check.Good n → n ≤ sizeOf t
+unfolding sectionOf
+lines-most t r at [] n g b h = absurd (true-false refl g)
+lines-most t r at (l ∷ []) n g b h =
+    ⊎-elim (λ p. let e = good-is r n (rw p at h) in omega arith) (λ p. neither (leb (sizeOf t) r) at n (rw p at h)) (decided (empty l))
+lines-most t r at (l ∷ m ∷ ms) n g b h =
+    let k = rw (and-false (empty l)) at h in
+    ⊎-elim (λ q. never (Check.Rows at) n (rw q at k) refl)
+    (λ q. lines-most t (r + 1) (at + length l + 1) (m ∷ ms) n refl (let e = leb-false (sizeOf t) r q in omega arith) (after-rest (lineOf t at l) _ n (rw q at k)))
+    (decided (leb (sizeOf t) r))
+
+-- an accepted section has no more rows than its table
+pub section-most : (t : Section) (at : ℕ) (l : List ℕ) (n : ℕ) → checkOf t at l ≡ Check.Good n → n ≤ sizeOf t
+section-most t at l n h = lines-most t 0 at (pieces 10 l) n (pieces-some 10 l) (omega arith) h
 
 -- ---- every field of an accepted section is good
 
