@@ -16,7 +16,7 @@ ghost use Rattle.injections.specs.Injections.{ybus};
 ghost use Rattle.qlim.specs.Rounds.{study};
 ghost use Rattle.qlim.specs.Rounds as Rounds;
 ghost use Rattle.starts.specs.References.{Slacks};
-ghost use Rattle.pf_ac.specs.Search.{betterOf, firstOf, startOf, countOf, searched, searchOf};
+ghost use Rattle.pf_ac.specs.Search.{betterOf, firstOf, startOf, countOf, searched, judgedOf, searchOf};
 ghost use Rattle.pf_ac.specs.Network.{network, Ready, acPfOf};
 
 // Where the iteration starts: flat, or the stored case state first.
@@ -111,6 +111,22 @@ fn pick(yes: bool, a: Settled, b: Settled) -> Settled
     if yes { a } else { b }
 }
 
+// What the result kept makes of the search: solved, or not yet.
+fn judged(best: Settled, starts: usize) -> AcPf
+    ensures { λ r. ⌜ r ≡ judgedOf best starts ⌝ }
+{
+    if best.residual < TOL {
+        return AcPf::Solved {
+            iterations: best.iterations,
+            residual: best.residual,
+        };
+    }
+    AcPf::NotConverged {
+        mismatch: best.residual,
+        starts,
+    }
+}
+
 fn search(
     start: AcStart,
     n: usize,
@@ -159,15 +175,10 @@ fn search(
         );
         let yes = better(i == 0, best.residual, s.residual);
         best = pick(yes, s, best);
-        if best.residual < TOL {
-            return Kept {
-                found: AcPf::Solved {
-                    iterations: best.iterations,
-                    residual: best.residual,
-                },
-                best,
-            };
-        }
+        let found = judged(best, count);
+        let AcPf::NotConverged { .. } = found else {
+            return Kept { found, best };
+        };
     }
     Kept {
         found: AcPf::NotConverged {

@@ -8,7 +8,7 @@ use Rattle.injections.specs.Injections.{ybus}
 use Rattle.newton.specs.Newton.Laws.{fuel}
 use Rattle.qlim.specs.Rounds.{study}
 use Rattle.pf_ac.specs.Search.{searchFrom, searchOf}
-use Rattle.pf_ac.specs.Search.Laws.{search-none, search-ends, search-on, search-begins}
+use Rattle.pf_ac.specs.Search.Laws.{judged-below, judged-above, judged-solved, search-none, search-ends, search-on, search-begins}
 use Rattle.pf_ac.proofs.search.Statement.{statement}
 use Rattle.pf_ac.proofs.search.Tie as tie
 
@@ -28,13 +28,34 @@ solve-qlim-requires : tie.Need-solve-qlim-requires Inv-loop μ-loop
 solve-qlim-requires c κs = let l = c .before .before .before in let s = l .before .before .before .before .before .before .before .before .before .before in (s .pre .0, omega (arith, s .pre .1, l .loop .inv .1))
 
 same-length : tie.Need-same-length Inv-loop μ-loop
-same-length c = let q = c .before .before .before .before .before .before in q .solve-qlim .kept .1 .1 .1 .1 .1 .1 .1 .1 .1 .1 .1 .1 .1 .0 ∙ q .before .before .before .before .loop .inv .1
+same-length c = let q = c .before .before .before .before .before .before .before in q .solve-qlim .kept .1 .1 .1 .1 .1 .1 .1 .1 .1 .1 .1 .1 .1 .0 ∙ q .before .before .before .before .loop .inv .1
 
 returns : tie.Need-returns Inv-loop μ-loop
-returns c = let k = c .before .before in let y = k .before in let q = y .before .before .before in let p = q .before .before in let l = p .before .before in sym (search-ends _ _ _ _ _ _ _ _ _ _ (p .start-at .ensures) _ _ (q .solve-qlim .ensures) _ (y .better .ensures) _ (k .pick .ensures) (c .if1 .taken)) ∙ (rw (fuel _ _ (p .before .loop-test .taken)) at (l .loop .inv .2))
+returns c =
+    let j = c .before .before in
+    let k = j .before in
+    let y = k .before in
+    let q = y .before .before .before in
+    let p = q .before .before in
+    let l = p .before .before in
+    let below = judged-below (k .pick .result) _ _ (j .judged .ensures) _ _ (c .enum-told2 .given .1) in
+    sym (search-ends _ _ _ _ _ _ _ _ _ _ (p .start-at .ensures) _ _ (q .solve-qlim .ensures) _ (y .better .ensures) _ (k .pick .ensures) _ (judged-solved (k .pick .result) _ _ (j .judged .ensures) below) below)
+    ∙ (rw (fuel _ _ (p .before .loop-test .taken)) at (l .loop .inv .2))
 
 loop-again : tie.Need-loop-again Inv-loop μ-loop
-loop-again c = let k = c .before .before in let y = k .before in let q = y .before .before .before in let p = q .before .before in let l = p .before .before in (omega (arith, p .before .loop-test .taken), q .solve-qlim .kept .1 .1 .1 .1 .1 .1 .1 .1 .1 .1 .1 .1 .1 .0 ∙ l .loop .inv .1, sym (search-on _ _ _ _ _ _ _ _ _ _ (p .start-at .ensures) _ _ (q .solve-qlim .ensures) _ (y .better .ensures) _ (k .pick .ensures) (c .if1 .left)) ∙ (rw (fuel _ _ (p .before .loop-test .taken)) at (l .loop .inv .2)))
+loop-again c =
+    let j = c .before .before in
+    let k = j .before in
+    let y = k .before in
+    let q = y .before .before .before in
+    let p = q .before .before in
+    let l = p .before .before in
+    let above = judged-above (k .pick .result) _ _ (j .judged .ensures) _ _ (c .enum-told .given .1) in (
+      omega (arith, p .before .loop-test .taken),
+      q .solve-qlim .kept .1 .1 .1 .1 .1 .1 .1 .1 .1 .1 .1 .1 .1 .0 ∙ l .loop .inv .1,
+      sym (search-on _ _ _ _ _ _ _ _ _ _ (p .start-at .ensures) _ _ (q .solve-qlim .ensures) _ (y .better .ensures) _ (k .pick .ensures) above)
+          ∙ (rw (fuel _ _ (p .before .loop-test .taken)) at (l .loop .inv .2)),
+    )
 
 same-length-2 : tie.Need-same-length-2 Inv-loop μ-loop
 same-length-2 c = c .before .loop .inv .1
@@ -43,4 +64,4 @@ returns-2 : tie.Need-returns-2 Inv-loop μ-loop
 returns-2 c = let l = c .before .loop in let n = c .before .before .start-count in let e : n .result - l .i ≡ 0 = omega arith in search-none _ _ _ _ _ _ _ (n .ensures .0) _ _ ∙ (rw e at (l .inv .2))
 
 pub search-spec : {M : Type 1} → statement M
-search-spec = tie.close (tie.spec Inv-loop μ-loop (λ c κs. search needs) loop-holds start-at-requires solve-qlim-requires (λ c κs. search needs) (λ c κs. search needs) same-length returns (λ c. search needs) (λ c. search needs) loop-again same-length-2 returns-2)
+search-spec = tie.close (tie.spec Inv-loop μ-loop (λ c κs. search needs) loop-holds start-at-requires solve-qlim-requires (λ c κs. search needs) (λ c κs. search needs) (λ c κs. search needs) (λ c. search needs) (λ c. search needs) same-length returns (λ c. search needs) (λ c. search needs) loop-again same-length-2 returns-2)

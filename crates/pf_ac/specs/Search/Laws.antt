@@ -14,8 +14,9 @@ use Rattle.qlim.specs.declared.Settled.{Settled}
 use Rattle.qlim.specs.Rounds.{Study, Done, done, qlimOf}
 use Rattle.pf_ac.specs.declared.AcStart.{AcStart}
 use Rattle.pf_ac.specs.declared.AcStart.the-variants.{Flat, Case}
-use Rattle.pf_ac.specs.declared.AcPf.the-variants.{NotConverged}
-use Rattle.pf_ac.specs.Search.{startOf, countOf, betterOf, Searched, searched, solved, tryOf, searchFrom, nothing, searchOf}
+use Rattle.pf_ac.specs.declared.AcPf.{AcPf}
+use Rattle.pf_ac.specs.declared.AcPf.the-variants.{Solved, NotConverged}
+use Rattle.pf_ac.specs.Search.{startOf, countOf, betterOf, Searched, searched, solved, judgedOf, tryOf, searchFrom, nothing, searchOf}
 
 pub first-start : (start : AcStart) (n : ℕ) (kinds : List BusKind) (first flat : Point) (i : ℕ) → i ≡ 0 → first ≡ startOf start n kinds first flat i
 unfolding startOf
@@ -31,6 +32,25 @@ unfolding startOf
 later-case start n kinds first flat zero e h = absurd (h refl)
 later-case start n kinds first flat (suc i) e h = let q : suc i - 1 ≡ i = omega arith in rw (e, q)
 
+-- what the judgement tells of the residual
+module _ (s : Settled) (starts : ℕ) (found : AcPf) (h : found ≡ judgedOf s starts) where
+  pub judged-below : (i : ℕ) (x : Float) → found ≡ Solved i x → lt (s .residual) tolerance ≡ true
+  judged-below i x e = go (lt (s .residual) tolerance) refl
+    where
+      go : (t : Bool) → lt (s .residual) tolerance ≡ t → lt (s .residual) tolerance ≡ true
+      go true q = q
+      go false q = let k : Solved i x ≡ NotConverged (s .residual) starts = sym e ∙ rw q at h in cc
+
+  pub judged-above : (x : Float) (k : ℕ) → found ≡ NotConverged x k → lt (s .residual) tolerance ≡ false
+  judged-above x k e = go (lt (s .residual) tolerance) refl
+    where
+      go : (t : Bool) → lt (s .residual) tolerance ≡ t → lt (s .residual) tolerance ≡ false
+      go true q = let r : NotConverged x k ≡ solved s = sym e ∙ rw q at h in cc
+      go false q = q
+
+  pub judged-solved : lt (s .residual) tolerance ≡ true → found ≡ solved s
+  judged-solved q = rw q at h
+
 module _ (start : AcStart) (s : Study) (kinds : List BusKind) (first flat : Point) where
   pub search-none : (i c : ℕ) → c ≡ countOf start → (best : Settled) (w : List Float) → searched (NotConverged (best .residual) c) best w ≡ searchFrom 0 i start s kinds first flat best w
   unfolding searchFrom
@@ -42,11 +62,11 @@ module _ (start : AcStart) (s : Study) (kinds : List BusKind) (first flat : Poin
     unfolding searchFrom
     turn = ap (λ (d : Done). tryOf (eqb i 0) best d (searchFrom m (i + 1) start s kinds first flat)) (sym (er ∙ ap (λ (x : Point). qlimOf s kinds x w) ep))
 
-    pub search-ends : lt (kept .residual) tolerance ≡ true → searchFrom (suc m) i start s kinds first flat best w ≡ searched (solved kept) kept v
-    search-ends h = turn ∙ try-ends (searchFrom m (i + 1) start s kinds first flat)
+    pub search-ends : (found : AcPf) → found ≡ solved kept → lt (kept .residual) tolerance ≡ true → searchFrom (suc m) i start s kinds first flat best w ≡ searched found kept v
+    search-ends found ef h = turn ∙ try-ends (searchFrom m (i + 1) start s kinds first flat)
       where
-        try-ends : (rest : Settled → List Float → Searched) → tryOf (eqb i 0) best (done r v) rest ≡ searched (solved kept) kept v
-        try-ends rest = unfold tryOf in rw (← ey, ← ek, h)
+        try-ends : (rest : Settled → List Float → Searched) → tryOf (eqb i 0) best (done r v) rest ≡ searched found kept v
+        try-ends rest = unfold tryOf in rw (← ey, ← ek, h, ef)
 
     pub search-on : lt (kept .residual) tolerance ≡ false → searchFrom (suc m) i start s kinds first flat best w ≡ searchFrom m (i + 1) start s kinds first flat kept v
     search-on h = turn ∙ try-on (searchFrom m (i + 1) start s kinds first flat)
