@@ -12,7 +12,7 @@ fn wide(x: u8) -> u64
 }
 
 // Two bytes from a place on, the first the higher.
-fn pair(s: &[u8], at: usize) -> u64
+pub fn pair(s: &[u8], at: usize) -> u64
     requires { ⌜ at + 2 ≤ length (now s) ⌝ }
     ensures { λ r. ⌜ (r ≡ pairOf at (now (s .entry))) × (r < 65536) ⌝ }
 {
