@@ -6,8 +6,8 @@ ghost use Prim.Native.Nat.{_+_, _*_, _≤_, _<_, min};
 ghost use lib.ListN.{length, take};
 ghost use Rattle.vectors.specs.Words.{pairOf, Tells};
 ghost use Rattle.case_text.specs.Trailer.{modeOf};
-ghost use Rattle.case_text.specs.Answer.{accepted, paperOf, columns, readOf};
-ghost use Rattle.text_vectors.specs.Told.{numberIn, placeIn, refusal, rowsTold, tablesTold, paperTold, wordTold, numbersTold, realsTold, outcomeTold, widthTold, Agrees, Found};
+ghost use Rattle.case_text.specs.Answer.{accepted, paperOf};
+ghost use Rattle.text_vectors.specs.Told.{numberIn, placeIn, refusal, rowsTold, tablesTold, paperTold, wordTold, numbersTold, realsTold, Agrees, Found};
 use libc::STDIN_FILENO;
 use libc::STDOUT_FILENO;
 
@@ -165,78 +165,7 @@ fn answered(s: &[u8], v: case_text::Reading) -> bool
     good(s, c)
 }
 
-// Whether the reading of a text into columns is as the record says.
-fn read_agrees(
-    text: &[u8],
-    s: &[u8],
-    kind: &mut [u8],
-    vm_set: &mut [f64],
-    pd: &mut [f64],
-    qd: &mut [f64],
-    pg: &mut [f64],
-    qg: &mut [f64],
-    vm_case: &mut [f64],
-    va_case: &mut [f64],
-    slacks: &mut [usize],
-    va_slacks: &mut [f64],
-    gen_bus: &mut [usize],
-    qmin: &mut [f64],
-    qmax: &mut [f64],
-    br_from: &mut [usize],
-    br_to: &mut [usize],
-    y_row: &mut [usize],
-    y_col: &mut [usize],
-    y_re: &mut [f64],
-    y_im: &mut [f64],
-) -> bool
-    requires { ⌜ 600000 ≤ length (now s) ⌝ }
-    ensures { λ r. ⌜ Tells r (readOf (now (text .entry)) (columns (now (kind .entry)) (now («vm_set» .entry)) (now (pd .entry)) (now (qd .entry)) (now (pg .entry)) (now (qg .entry)) (now («vm_case» .entry)) (now («va_case» .entry)) (now (slacks .entry)) (now («va_slacks» .entry)) (now («gen_bus» .entry)) (now (qmin .entry)) (now (qmax .entry)) (now («br_from» .entry)) (now («br_to» .entry)) (now («y_row» .entry)) (now («y_col» .entry)) (now («y_re» .entry)) (now («y_im» .entry)))
-        ≡ outcomeTold (now (s .entry)) (columns (now (kind .entry)) (now («vm_set» .entry)) (now (pd .entry)) (now (qd .entry)) (now (pg .entry)) (now (qg .entry)) (now («vm_case» .entry)) (now («va_case» .entry)) (now (slacks .entry)) (now («va_slacks» .entry)) (now («gen_bus» .entry)) (now (qmin .entry)) (now (qmax .entry)) (now («br_from» .entry)) (now («br_to» .entry)) (now («y_row» .entry)) (now («y_col» .entry)) (now («y_re» .entry)) (now («y_im» .entry)))) ⌝ }
-{
-    let v = case_text::read_case(
-        text,
-        kind,
-        vm_set,
-        pd,
-        qd,
-        pg,
-        qg,
-        vm_case,
-        va_case,
-        slacks,
-        va_slacks,
-        gen_bus,
-        qmin,
-        qmax,
-        br_from,
-        br_to,
-        y_row,
-        y_col,
-        y_re,
-        y_im,
-    );
-    answered(s, v)
-        & kinds(s, 0, kind)
-        & reals(s, 1, vm_set)
-        & reals(s, 2, pd)
-        & reals(s, 3, qd)
-        & reals(s, 4, pg)
-        & reals(s, 5, qg)
-        & reals(s, 6, vm_case)
-        & reals(s, 7, va_case)
-        & numbers(s, 8, slacks)
-        & reals(s, 9, va_slacks)
-        & numbers(s, 10, gen_bus)
-        & reals(s, 11, qmin)
-        & reals(s, 12, qmax)
-        & numbers(s, 13, br_from)
-        & numbers(s, 14, br_to)
-        & numbers(s, 15, y_row)
-        & numbers(s, 16, y_col)
-        & reals(s, 17, y_re)
-        & reals(s, 18, y_im)
-}
-
+// Whether the reading of a text, into columns that hold 7, is as the record says.
 fn agrees(text: &[u8], s: &[u8]) -> bool
     requires { ⌜ 600000 ≤ length (now s) ⌝ }
     ensures { λ r. ⌜ Tells r (Agrees (now (text .entry)) (now (s .entry))) ⌝ }
@@ -261,9 +190,8 @@ fn agrees(text: &[u8], s: &[u8]) -> bool
     let mut y_col = [7usize; 258];
     let mut y_re = [7.0; 258];
     let mut y_im = [7.0; 258];
-    read_agrees(
+    let v = case_text::read_case(
         text,
-        s,
         &mut kind[..m],
         &mut vm_set[..m],
         &mut pd[..m],
@@ -283,7 +211,27 @@ fn agrees(text: &[u8], s: &[u8]) -> bool
         &mut y_col[..m],
         &mut y_re[..m],
         &mut y_im[..m],
-    )
+    );
+    answered(s, v)
+        & kinds(s, 0, &kind[..m])
+        & reals(s, 1, &vm_set[..m])
+        & reals(s, 2, &pd[..m])
+        & reals(s, 3, &qd[..m])
+        & reals(s, 4, &pg[..m])
+        & reals(s, 5, &qg[..m])
+        & reals(s, 6, &vm_case[..m])
+        & reals(s, 7, &va_case[..m])
+        & numbers(s, 8, &slacks[..m])
+        & reals(s, 9, &va_slacks[..m])
+        & numbers(s, 10, &gen_bus[..m])
+        & reals(s, 11, &qmin[..m])
+        & reals(s, 12, &qmax[..m])
+        & numbers(s, 13, &br_from[..m])
+        & numbers(s, 14, &br_to[..m])
+        & numbers(s, 15, &y_row[..m])
+        & numbers(s, 16, &y_col[..m])
+        & reals(s, 17, &y_re[..m])
+        & reals(s, 18, &y_im[..m])
 }
 
 // Whether the input had n bytes more, which are then the first of s.
