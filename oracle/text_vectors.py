@@ -2,6 +2,13 @@
 """Makes the texts of crates/text_vectors and what document 01 says of each, worked out here and not by the proved code.
 
 The reader below follows 01's sentences on strings with regular expressions; a real is an exact fraction rounded once, to nearest even.
+The input of crates/text_vectors: how many records, and the records. Numbers have two bytes, the higher first.
+  a record: how many bytes its text has, how many the rest has, the text, and the rest:
+    the refusal's number (0 of a good answer), its place, the flag of a good answer, and how many places each of the 19 columns has
+    for each column where its words start, counted from here, and how many rows it has
+    the words of the columns, of eight bytes: one for each row, and behind them one for all places past the rows
+  Before each reading a column holds 7 in every place. Columns of the same words share them.
+
 Usage: python3 oracle/text_vectors.py        (writes crates/text_vectors/stdin and stdout; the same each time)
 """
 import os
@@ -98,18 +105,18 @@ def words(kind, column):
 
 
 def encode(content, narrow=False):
-    """One record, as crates/text_vectors reads it."""
+    """One record."""
     answer = read(content, narrow)
     refused = answer[0] == "refused"
     number, place, flag = (answer[1], answer[2], 0) if refused else (0, 0, answer[1])
     columns = [[]] * len(COLUMNS) if refused else answer[3]
-    listing, at, directory, values = {}, 8 + 4 * len(COLUMNS), b"", b""
+    starts, directory, values = {}, b"", b""
     for (z, j), column in zip(COLUMNS, columns):
         w = words(FIELDS[z][j], column)
-        if w not in listing:
-            listing[w] = at + len(values)
+        if w not in starts:
+            starts[w] = 8 + 4 * len(COLUMNS) + len(values)
             values += w
-        directory += struct.pack(">HH", listing[w], len(column))
+        directory += struct.pack(">HH", starts[w], len(column))
     told = struct.pack(">4H", number, place, flag, 1 if narrow else 258) + directory + values
     return struct.pack(">HH", len(content), len(told)) + content + told
 

@@ -6,7 +6,7 @@ use Prim.Native.Nat.{ℕ, _<_}
 use native.Mathlib.Omega.{arith}
 use borrow.Author.Tests.{eq-eqb, ne-eqb, eqb-true, not-true}
 use lib.Dec.{eqb}
-use mathlib.Core.List.{List, [], _∷_}
+use mathlib.Core.List.{List}
 use Rattle.vectors.specs.Words.{pairOf, Tells}
 use Rattle.case_text.specs.Trailer.{modeOf}
 use Rattle.case_text.specs.Answer.{Paper, accepted, refused, paperOf}

@@ -9,12 +9,10 @@ use lib.Ieee.{Float, binary64, ofBits}
 use Rattle.real.specs.Literals.{lit}
 use Rattle.vectors.specs.Words.{pairOf, wordOf}
 use Rattle.case_text.specs.Trailer.{modeOf}
-use Rattle.case_text.specs.Answer.{Paper, accepted, refused, paperOf, Columns, columns, Outcome, outcome, readOf}
+use Rattle.case_text.specs.Answer.{Paper, accepted, refused, Columns, columns, Outcome, outcome, readOf}
 use Rattle.case_text.specs.declared.Tables.{Tables}
-use Rattle.case_text.specs.declared.Reading.{Reading}
-use Rattle.case_text.specs.declared.Start.{Start}
 
--- the answer: its number, 0 of a good one, and its place
+-- an answer's number, 0 of a good one, and its place, 0 where it has none
 abbrev pub numberIn : Paper → ℕ
 numberIn (accepted c) = 0
 numberIn (refused n values) = n
@@ -23,9 +21,11 @@ abbrev pub placeIn : Paper → ℕ
 placeIn (accepted c) = 0
 placeIn (refused n values) = getD values 0 0
 
+-- the refusal of a number; 9 has no place
 abbrev pub refusal : ℕ → ℕ → Paper
 refusal n at = cond (eqb n 9) (refused 9 []) (refused n (at ∷ []))
 
+-- the answer of a number: 0 stands for a good one
 abbrev pub answer : ℕ → ℕ → Tables → Paper
 answer n at c = cond (eqb n 0) (accepted c) (refusal n at)
 
@@ -33,6 +33,7 @@ answer n at c = cond (eqb n 0) (accepted c) (refusal n at)
 abbrev pub rowsTold : List ℕ → ℕ → ℕ
 rowsTold s j = pairOf (10 + j * 4) s
 
+-- the rows of each table are those of its first column
 abbrev pub tablesTold : List ℕ → Tables
 tablesTold s = record {
   start = modeOf (pairOf 4 s);

@@ -1,15 +1,16 @@
 // Runs read_case on the texts of its input, good and damaged, and compares the answer and every place of every column with what the input says
 // (oracle/text_vectors.py has the format). Before each reading a column holds 7 in every place, and it must still do so past the rows.
 ghost use mathlib.Core.Path.{_≡_};
-ghost use mathlib.Core.Bool.{_&&_};
 ghost use Prim.Native.Nat.{_+_, _*_, _≤_, _<_, min};
 ghost use lib.ListN.{length, take};
 ghost use Rattle.vectors.specs.Words.{pairOf, Tells};
 ghost use Rattle.case_text.specs.Trailer.{modeOf};
 ghost use Rattle.case_text.specs.Answer.{accepted, paperOf};
-ghost use Rattle.text_vectors.specs.Told.{numberIn, placeIn, refusal, rowsTold, tablesTold, paperTold, wordTold, numbersTold, realsTold, Agrees, Found};
+ghost use Rattle.text_vectors.specs.Told.{numberIn, placeIn, refusal, rowsTold, paperTold, wordTold, numbersTold, realsTold, Agrees, Found};
 use libc::STDIN_FILENO;
 use libc::STDOUT_FILENO;
+
+// The record is s throughout, and j counts the columns in read_case's order.
 
 fn pair(s: &[u8], at: usize) -> usize
     requires { ⌜ at + 2 ≤ length (now s) ⌝ }
@@ -46,6 +47,7 @@ fn told(s: &[u8], j: usize, i: usize) -> u64
     vectors::word(s, pair(s, 8 + j * 4) + k * 8)
 }
 
+// Whether each place of a column holds what the input says; one function for each type of element.
 fn kinds(s: &[u8], j: usize, col: &[u8]) -> bool
     requires { ⌜ (j < 19) × (600000 ≤ length (now s)) ⌝ }
     ensures { λ r. ⌜ Tells r (now (col .entry) ≡ numbersTold (now (s .entry)) j (now (col .entry))) ⌝ }
@@ -88,6 +90,7 @@ fn reals(s: &[u8], j: usize, col: &[f64]) -> bool
     true
 }
 
+// The refusal's number, and 0 of a good answer.
 fn number(r: case_text::Reading) -> usize
     ensures { λ n. ⌜ n ≡ numberIn (paperOf r) ⌝ }
 {
@@ -119,6 +122,7 @@ fn place(r: case_text::Reading) -> usize
     }
 }
 
+// Whether the input says this refusal. Refusal 9 has no place.
 fn refused(s: &[u8], n: usize, at: usize) -> bool
     requires { ⌜ (0 < n) × (600000 ≤ length (now s)) ⌝ }
     ensures { λ r. ⌜ Tells r (refusal n at ≡ paperTold (now (s .entry))) ⌝ }
@@ -141,6 +145,7 @@ fn starts(m: case_text::Start, letter: usize) -> bool
     letter == 70
 }
 
+// Whether the input says these tables: a table's rows are those of its first column.
 fn good(s: &[u8], c: case_text::Tables) -> bool
     requires { ⌜ 600000 ≤ length (now s) ⌝ }
     ensures { λ r. ⌜ Tells r (accepted c ≡ paperTold (now (s .entry))) ⌝ }
@@ -165,7 +170,7 @@ fn answered(s: &[u8], v: case_text::Reading) -> bool
     good(s, c)
 }
 
-// Whether the reading of a text, into columns that hold 7, is as the record says.
+// Whether the reading of a text, into columns that hold 7, is as the record says. The columns are as long as the record asks, so that refusal 9 can be met.
 fn agrees(text: &[u8], s: &[u8]) -> bool
     requires { ⌜ 600000 ≤ length (now s) ⌝ }
     ensures { λ r. ⌜ Tells r (Agrees (now (text .entry)) (now (s .entry))) ⌝ }
@@ -263,7 +268,7 @@ fn next(head: &mut [u8], text: &mut [u8], s: &mut [u8]) -> u64
     1
 }
 
-// Room for any record: a column's start and rows are two bytes each, and a row has eight.
+// Room for any record: a start and rows of two bytes each lead no further than 65,535 + 65,536 * 8.
 fn room() -> [u8; 600000]
     ensures { λ r. ⌜ 600000 ≡ length r ⌝ }
 {
