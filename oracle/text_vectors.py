@@ -2,6 +2,13 @@
 """Makes the texts of crates/text_vectors and what document 01 says of each, worked out here and not by the proved code.
 
 The reader below follows 01's sentences on strings with regular expressions; a real is an exact fraction rounded once, to nearest even.
+The input of crates/text_vectors: how many records, and the records. Numbers have two bytes, the higher first.
+  a record: how many bytes its text has, how many the rest has, the text, and the rest:
+    the refusal's number (0 of a good answer), its place, the flag of a good answer, and how many places each of the 19 columns has
+    for each column where its words start, counted from here, and how many rows it has
+    the words of the columns, of eight bytes: one for each row, and behind them one for all places past the rows
+  Before each reading a column holds 7 in every place. Columns of the same words share them.
+
 Usage: python3 oracle/text_vectors.py        (writes crates/text_vectors/stdin and stdout; the same each time)
 """
 import os
@@ -91,18 +98,27 @@ def read(text, narrow=False):
     return ("good", text[end], [len(tables[z]) for z in SECTIONS], [[row[j] for row in tables[z]] for z, j in COLUMNS])
 
 
-def encode(head, unit=b"", times=0, tail=b"", narrow=False):
-    """One record, as crates/text_vectors reads it."""
-    answer = read(head + unit * times + tail, narrow)
+def words(kind, column):
+    """A column's values as words, and behind them the 7 that every place past the rows still holds."""
+    seven = struct.pack(">Q" if kind in "kb" else ">d", 7)
+    return b"".join(struct.pack(">Q", v) for v in column) + seven
+
+
+def encode(content, narrow=False):
+    """One record."""
+    answer = read(content, narrow)
     refused = answer[0] == "refused"
-    out = struct.pack(">BHBHHHHH", answer[1] if refused else 0, answer[2] if refused else 0, int(narrow), 0, len(head), len(unit), times, len(tail))
-    out += head + unit + tail
-    if not refused:
-        _, flag, rows, columns = answer
-        out += bytes([flag]) + struct.pack(">5H", *rows)
-        for (z, j), column in zip(COLUMNS, columns):
-            out += b"".join(struct.pack({"k": ">B", "b": ">H"}.get(FIELDS[z][j], ">Q"), v) for v in column)
-    return out
+    number, place, flag = (answer[1], answer[2], 0) if refused else (0, 0, answer[1])
+    columns = [[]] * len(COLUMNS) if refused else answer[3]
+    starts, directory, values = {}, b"", b""
+    for (z, j), column in zip(COLUMNS, columns):
+        w = words(FIELDS[z][j], column)
+        if w not in starts:
+            starts[w] = 8 + 4 * len(COLUMNS) + len(values)
+            values += w
+        directory += struct.pack(">HH", starts[w], len(column))
+    told = struct.pack(">4H", number, place, flag, 1 if narrow else 258) + directory + values
+    return struct.pack(">HH", len(content), len(told)) + content + told
 
 
 def text(b=(), r=(), g=(), l=(), y=(), flag=b"F"):
@@ -122,10 +138,10 @@ CASE = text([BUS, b"B Q 1 0 0 0 0 1.0 0"], [b"R 0 0"], [b"G 1 -1 1.5"], [b"L 0 1
 
 
 def filled(z, line, n):
-    """Head, unit, times and tail of a text with n times the same line in one section."""
+    """A text with n times the same line in one section."""
     k = SECTIONS.index(z)
     size = (len(line) + 1) * n
-    return (b"", line + b"\n", n, trailing(b"", [0] * (k + 1) + [size] * (5 - k)))
+    return trailing((line + b"\n") * n, [0] * (k + 1) + [size] * (5 - k))
 
 
 def records():
@@ -141,8 +157,8 @@ def records():
         add(text()[:n])
     add(b"\n" + text())
     for extra in (0, 1, 2):
-        add(b"", b"B Q 1 0 0 0 0 ? ?\n", 1818, b" " * (6 + extra) + trailing(b"", [0] + [32730 + extra] * 5))
-    add(b"", b"Y 0 0 2 -8\n", 2975, b"\n" * 5 + trailing(b"", [0] * 5 + [32730]))
+        add(b"B Q 1 0 0 0 0 ? ?\n" * 1818 + b" " * (6 + extra) + trailing(b"", [0] + [32730 + extra] * 5))
+    add(b"Y 0 0 2 -8\n" * 2975 + b"\n" * 5 + trailing(b"", [0] * 5 + [32730]))
     # refusal 2: trailers
     body = LISTING[:35]
     for starts in ([0, 18, 24, 24, 24, 34], [0, 18, 24, 24, 24, 36], [1, 18, 24, 24, 24, 35], [0, 24, 18, 24, 24, 35], [0, 18, 24, 23, 24, 35],
@@ -173,13 +189,13 @@ def records():
     add(text([b"B Q 1. 0 0 0 0 ? ?"], [b"R 0 x"]))
     # refusal 6, and each table exactly full
     for z, line in zip(SECTIONS, (b"B Q 1 0 0 0 0 ? ?", b"R 7 0.5", b"G 3 -1 1", b"L 0 999", b"Y 31 2 0.125 -3")):
-        add(*filled(z, line, SIZES[z]))
-        add(*filled(z, line, SIZES[z] + 1))
-        add(*filled(z, b"x" + line, SIZES[z] + 1))
-    add(b"", b"B Q 1 0 0 0 0 ? ?\n", 32, b"nonsense\n" + trailing(b"", [0] + [585] * 5))
-    add(b"", b"B Q 1 0 0 0 0 ? ?\n", 32, b"B.\n" + trailing(b"", [0] + [579] * 5))
-    add(b"", b"B Q 1 0 0 0 0 ? ?\n", 32, b"B" + trailing(b"", [0] + [577] * 5))
-    add(b"", b"B Q 1 0 0 0 0 ? ?\n", 31, b"B" + trailing(b"", [0] + [559] * 5))
+        add(filled(z, line, SIZES[z]))
+        add(filled(z, line, SIZES[z] + 1))
+        add(filled(z, b"x" + line, SIZES[z] + 1))
+    add(b"B Q 1 0 0 0 0 ? ?\n" * 32 + b"nonsense\n" + trailing(b"", [0] + [585] * 5))
+    add(b"B Q 1 0 0 0 0 ? ?\n" * 32 + b"B.\n" + trailing(b"", [0] + [579] * 5))
+    add(b"B Q 1 0 0 0 0 ? ?\n" * 32 + b"B" + trailing(b"", [0] + [577] * 5))
+    add(b"B Q 1 0 0 0 0 ? ?\n" * 31 + b"B" + trailing(b"", [0] + [559] * 5))
     # refusal 4: forms
     good = b"B Q 1 0 0 0 0 ? ?"
     for line in (b"", b" ", b"B", b"B ", b"R 0 0", b"Q" + good[1:], b" " + good, good + b" ", good.replace(b" Q", b"  Q"), good.replace(b"0 0", b"0  0", 1), good + b" 1",
@@ -241,9 +257,9 @@ def main():
     here = os.path.join(os.path.dirname(os.path.abspath(__file__)), "..", "crates", "text_vectors")
     all_records = records()
     with open(os.path.join(here, "stdin"), "wb") as f:
-        f.write(b"".join(all_records))
+        f.write(struct.pack(">H", len(all_records)) + b"".join(all_records))
     with open(os.path.join(here, "stdout"), "w") as f:
-        f.write("texts %d, agreeing %d\n" % (len(all_records), len(all_records)))
+        f.write("texts %d, differing 0\n" % len(all_records))
 
 
 if __name__ == "__main__":

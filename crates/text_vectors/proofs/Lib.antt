@@ -1,1 +1,3 @@
-pub mod Between
+pub mod Telling
+pub mod Papers
+pub mod Parts

@@ -1,0 +1,64 @@
+-- `text_vectors::next` meets its contract: only the last two ways tell of a text, as `agrees` found it. Assumes nothing.
+use mathlib.Core.Path.{sym, _∙_}
+use mathlib.Core.Bool.{true≢false}
+use native.Mathlib.Omega.{arith}
+use borrow.Author.Needs.{needs}
+use lib.Seq.{length-take-le}
+use Rattle.text_vectors.proofs.next.Statement.{statement}
+use Rattle.text_vectors.proofs.next.Tie as tie
+
+returns : tie.Need-returns
+returns c = record { small = omega arith; agreed = λ e. absurd (omega arith); differed = λ e. absurd (omega arith) }
+
+returns-2 : tie.Need-returns-2
+returns-2 c = record { small = omega arith; agreed = λ e. absurd (omega arith); differed = λ e. absurd (omega arith) }
+
+returns-3 : tie.Need-returns-3
+returns-3 c = record { small = omega arith; agreed = λ e. absurd (omega arith); differed = λ e. absurd (omega arith) }
+
+slice-aggregate-agrees : tie.Need-slice-aggregate-agrees
+slice-aggregate-agrees c = sym (length-take-le _ _ (omega arith))
+
+returns-4 : tie.Need-returns-4
+returns-4 c =
+    let pair = c .before .before .before .before .before .before .before .before .before .before .before .before .before .before .before .before .pair .ensures .0 in
+    record { small = omega arith; agreed = λ e. rw pair at (c .before .agrees .ensures .0 (c .if4 .taken)); differed = λ e. absurd (omega arith) }
+
+returns-5 : tie.Need-returns-5
+returns-5 c =
+    let pair = c .before .before .before .before .before .before .before .before .before .before .before .before .before .before .before .before .pair .ensures .0 in
+    record {
+      small = omega arith;
+      agreed = λ e. absurd (omega arith);
+      differed = λ e a. true≢false (sym ((rw pair at (c .before .agrees .ensures .1)) a) ∙ c .if4 .left);
+    }
+
+pub next-spec : {M : Type 1} → statement M
+next-spec =
+    tie.close
+    (tie.spec
+    (λ c κs. search needs)
+    (λ c. search needs)
+    returns
+    (λ c κs. search needs)
+    (λ c κs. search needs)
+    (λ c. search needs)
+    (λ c. search needs)
+    returns-2
+    (λ c κs. search needs)
+    (λ c κs. search needs)
+    (λ c. search needs)
+    (λ c. search needs)
+    (λ c. search needs)
+    returns-3
+    (λ c. search needs)
+    slice-aggregate-agrees
+    (λ c κs. search needs)
+    (λ c. search needs)
+    (λ c. search needs)
+    (λ c. search needs)
+    returns-4
+    (λ c. search needs)
+    (λ c. search needs)
+    (λ c. search needs)
+    returns-5)

@@ -1,0 +1,95 @@
+-- What a record of the input says of a text's reading: the answer, and every place of every column (oracle/text_vectors.py has the format).
+use mathlib.Core.Path.{_≡_}
+use mathlib.Core.Bool.{cond}
+use mathlib.Core.List.{List, [], _∷_}
+use Prim.Native.Nat.{ℕ, zero, suc, _+_, _*_, _≤_, min}
+use lib.Dec.{eqb}
+use lib.ListN.{length, getD, replicate}
+use lib.Ieee.{Float, binary64, ofBits}
+use Rattle.real.specs.Literals.{lit}
+use Rattle.vectors.specs.Words.{pairOf, wordOf}
+use Rattle.case_text.specs.Trailer.{modeOf}
+use Rattle.case_text.specs.Answer.{Paper, accepted, refused, Columns, columns, Outcome, outcome, readOf}
+use Rattle.case_text.specs.declared.Tables.{Tables}
+
+-- an answer's number, 0 of a good one, and its place, 0 where it has none
+abbrev pub numberIn : Paper → ℕ
+numberIn (accepted c) = 0
+numberIn (refused n values) = n
+
+abbrev pub placeIn : Paper → ℕ
+placeIn (accepted c) = 0
+placeIn (refused n values) = getD values 0 0
+
+-- the refusal of a number; 9 has no place
+abbrev pub refusal : ℕ → ℕ → Paper
+refusal n at = cond (eqb n 9) (refused 9 []) (refused n (at ∷ []))
+
+-- the answer of a number: 0 stands for a good one
+abbrev pub answer : ℕ → ℕ → Tables → Paper
+answer n at c = cond (eqb n 0) (accepted c) (refusal n at)
+
+-- a column's rows
+abbrev pub rowsTold : List ℕ → ℕ → ℕ
+rowsTold s j = pairOf (10 + j * 4) s
+
+-- the rows of each table are those of its first column
+abbrev pub tablesTold : List ℕ → Tables
+tablesTold s = record {
+  start = modeOf (pairOf 4 s);
+  buses = rowsTold s 0;
+  slacks = rowsTold s 8;
+  generators = rowsTold s 10;
+  branches = rowsTold s 13;
+  triplets = rowsTold s 15;
+}
+
+abbrev pub paperTold : List ℕ → Paper
+paperTold s = answer (pairOf 0 s) (pairOf 2 s) (tablesTold s)
+
+-- the word of place i of column j: the rows' stand one behind the other, and behind them that of every place past the rows
+unfoldable pub wordTold : List ℕ → ℕ → ℕ → ℕ
+wordTold s j i = wordOf (pairOf (8 + j * 4) s + min i (rowsTold s j) * 8) s
+
+-- f's values at the places of a list
+unfoldable pub listed : {A : Type 0} → ℕ → (ℕ → A) → List A
+listed zero f = []
+listed (suc m) f = f 0 ∷ listed m (λ i. f (suc i))
+
+-- column j, as long as before
+abbrev pub numbersTold : List ℕ → ℕ → List ℕ → List ℕ
+numbersTold s j old = listed (length old) (wordTold s j)
+
+abbrev pub realsTold : List ℕ → ℕ → List Float → List Float
+realsTold s j old = listed (length old) (λ i. ofBits binary64 (wordTold s j i))
+
+abbrev pub columnsTold : List ℕ → Columns → Columns
+columnsTold s (columns kind vmSet pd qd pg qg vmCase vaCase slacks vaSlacks genBus qmin qmax brFrom brTo yRow yCol yRe yIm) =
+    columns (numbersTold s 0 kind) (realsTold s 1 vmSet) (realsTold s 2 pd) (realsTold s 3 qd) (realsTold s 4 pg) (realsTold s 5 qg)
+    (realsTold s 6 vmCase) (realsTold s 7 vaCase) (numbersTold s 8 slacks) (realsTold s 9 vaSlacks) (numbersTold s 10 genBus)
+    (realsTold s 11 qmin) (realsTold s 12 qmax) (numbersTold s 13 brFrom) (numbersTold s 14 brTo) (numbersTold s 15 yRow)
+    (numbersTold s 16 yCol) (realsTold s 17 yRe) (realsTold s 18 yIm)
+
+abbrev pub outcomeTold : List ℕ → Columns → Outcome
+outcomeTold s old = outcome (paperTold s) (columnsTold s old)
+
+-- how many places each column has
+abbrev pub widthTold : List ℕ → ℕ
+widthTold s = min (pairOf 6 s) 258
+
+-- columns of m places, 7 in each
+abbrev pub sevens : ℕ → Columns
+sevens m =
+    let n : List ℕ = replicate m 7 in
+    let x : List Float = replicate m (lit 0x401c_0000_0000_0000) in
+    columns n x x x x x x x n x n x x n n n n x x
+
+-- the reader's definition gives what the record says of the text
+abbrev pub Agrees : List ℕ → List ℕ → Type 0
+Agrees text s = readOf text (sevens (widthTold s)) ≡ outcomeTold s (sevens (widthTold s))
+
+-- the answer of a turn: 0 where the reading agrees, 1 where it differs, 2 where the input has no whole record left
+pub record Found (r : ℕ) (P : Type 0) : Type 0 where
+  pub small : r ≤ 2
+  pub agreed : r ≡ 0 → P
+  pub differed : r ≡ 1 → P → ⊥
