@@ -3,8 +3,9 @@
 
 Usage: python3 oracle/make_oracle.py PATH_TO_SRC [OUT] [--num-complex CRATES]
 PATH_TO_SRC holds crates/tellegen/src/.. of eigenergy/tellegen; OUT is target/oracle.
-Writes OUT/altered.rs (find and dense_islands of islands.rs, all of pf_ac.rs, changed only as listed in CHANGES) and builds OUT/oracle and
-OUT/oracle_platform (the same with the platform's sine and cosine). None of the repository's text is kept here.
+Writes OUT/altered.rs (find and dense_islands of islands.rs, all of pf_ac.rs, changed only as listed in CHANGES and COUNTERS) and builds OUT/oracle
+and OUT/oracle_platform (the same with the platform's sine and cosine). None of the repository's text is kept here.
+Writes OUT/uncounted.rs too, the same without COUNTERS, for the benchmark.
 With --num-complex it builds OUT/oracle_num_complex too: the platform's sine and cosine, and the crate num_complex itself in place of complex.rs.
 CRATES is a folder with the sources of num-complex and num-traits (Debian: librust-num-complex-dev puts them in /usr/share/cargo/registry).
 """
@@ -24,7 +25,10 @@ CHANGES = [
      "use crate::formulation::{AcPolar, Formulation};\nuse crate::model::islands::dense_islands;\nuse crate::model::AcNetwork;\nuse crate::solve::solve_sparse;\n", ""),
     ("a refusal gives the mismatch and the starts as numbers, not as text", "    start: AcStart,\n) -> Result<AcPfSolution, String> {", "    start: AcStart,\n) -> Result<AcPfSolution, (f64, usize)> {"),
     ("the same", "        return Err(format!(\n            \"AC power flow did not converge: best mismatch {residual:.3e} over {start_count} starts\"\n        ));", "        return Err((residual, start_count));"),
-    # observation only: counters that the solver never reads
+]
+
+# Observation only: counters that the solver never reads.
+COUNTERS = [
     ("counts starts", "    for (vm0, va0) in starts {\n", "    for (vm0, va0) in starts {\n        met(|m| m.starts += 1);\n"),
     ("counts rounds and twelfth ones", "    for _ in 0..MAX_OUTER {\n", "    for round in 0..MAX_OUTER {\n        met(|m| { m.rounds += 1; m.twelfth += usize::from(round == MAX_OUTER - 1); });\n"),
     ("counts singular matrices", "            break; // singular Jacobian: stop at the best iterate so far", "            met(|m| m.singular += 1);\n            break; // singular Jacobian: stop at the best iterate so far"),
@@ -52,11 +56,11 @@ def take(text, start, end):
     return text[i:text.index(end, i) + len(end)]
 
 
-def altered(src):
+def altered(src, changes):
     """The repository's part of the program."""
     islands = open(os.path.join(src, "model", "islands.rs")).read()
     pf_ac = open(os.path.join(src, "problem", "pf_ac.rs")).read()
-    for what, old, new in CHANGES:
+    for what, old, new in changes:
         if pf_ac.count(old) != 1:
             sys.exit(f"{pf_ac.count(old)} places for: {what}")
         pf_ac = pf_ac.replace(old, new)
@@ -93,8 +97,10 @@ def main():
     args.add_argument("--num-complex")
     args = args.parse_args()
     os.makedirs(args.out, exist_ok=True)
-    part = altered(os.path.join(args.src, "crates", "tellegen", "src"))
-    print(f"{len(CHANGES)} changes")
+    src = os.path.join(args.src, "crates", "tellegen", "src")
+    write(os.path.join(args.out, "uncounted.rs"), own("complex.rs"), altered(src, CHANGES))
+    part = altered(src, CHANGES + COUNTERS)
+    print(f"{len(CHANGES) + len(COUNTERS)} changes")
     source = os.path.join(args.out, "altered.rs")
     write(source, own("complex.rs"), part)
     rustc(source, os.path.join(args.out, "oracle"), "--edition", "2021")

@@ -161,6 +161,11 @@ thread_local! {
     pub static MET: Cell<Met> = Cell::new(Met::default());
 }
 
+// With --cfg uncounted nothing is counted, for the benchmark.
+#[cfg(uncounted)]
+pub fn met(_: impl FnOnce(&mut Met)) {}
+
+#[cfg(not(uncounted))]
 pub fn met(f: impl FnOnce(&mut Met)) {
     MET.with(|c| {
         let mut m = c.get();

@@ -166,15 +166,12 @@ fn missing_power(g: f64, d: f64, calc: f64) -> f64
     (g - d) - calc
 }
 
-fn put(r: [f64; 64], row: usize, x: f64) -> [f64; 64]
-    ensures { λ s. ⌜ s ≡ atRow r row x ⌝ }
+fn put(r: &mut [f64; 64], row: usize, x: f64)
+    ensures { λ _. ⌜ now (r .exit) ≡ atRow (now (r .entry)) row x ⌝ }
 {
-    let mut s = r;
     if row < NONE {
-        s[row] = x;
-        return s;
+        r[row] = x;
     }
-    s
 }
 
 // ---- the layout
@@ -265,10 +262,9 @@ impl AcPfLayout {
         let mut r = [0.0; 64];
         for b in 0..n {
             let x = missing_power(pg[b], pd[b], p_calc[b]);
-            let s = put(r, self.p_of[b], x);
+            put(&mut r, self.p_of[b], x);
             let y = missing_power(qg[b], qd[b], q_calc[b]);
-            let t = put(s, self.q_of[b], y);
-            r = t;
+            put(&mut r, self.q_of[b], y);
         }
         r
     }

@@ -145,7 +145,8 @@ fn put_solved(
 }
 
 // The report of a text. The buffer's first places, as many as are answered, hold it.
-pub fn report(text: &[u8], out: &mut [u8; 4096], space: &mut [f64; 6144]) -> usize
+#[no_mangle]
+pub extern "C" fn report(text: &[u8], out: &mut [u8; 4096], space: &mut [f64; 6144]) -> usize
     ensures { λ k. ⌜ Reported (reportOf (now (text .entry)) (now (space .entry))) (now (out .entry)) k (now (out .exit)) (now (space .exit)) ⌝ }
     ensures { λ k. ⌜ Counts k (now (out .exit)) ⌝ }
 {
