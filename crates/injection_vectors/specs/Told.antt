@@ -104,9 +104,3 @@ pub record Agrees (s : List ℕ) (n m dim : ℕ) : Type 0 where
   pub cols : Below n (ybusTold s m .col)
   pub injected : injectionsAt s n m ≡ injectionsTold s (m * 32 + n * 48) n
   pub entries : Entries s n m dim
-
--- the answer of a turn: 0 where all agree, 1 where something differs, 2 where the input has no whole point left
-pub record Found (r : ℕ) (P : Type 0) : Type 0 where
-  pub small : r ≤ 2
-  pub agreed : r ≡ 0 → P
-  pub differed : r ≡ 1 → P → ⊥

@@ -6,8 +6,8 @@ ghost use lib.ListN.{length, replicate};
 ghost use Rattle.layout.specs.Table.{Below};
 ghost use Rattle.injections.specs.Injections.{ybus, Good};
 ghost use Rattle.real.specs.Literals.{nought};
-ghost use Rattle.vectors.specs.Words.{wordOf, Tells};
-ghost use Rattle.injection_vectors.specs.Told.{wordsTold, doublesTold, tableTold, columnsTold, columnTold, layoutTold, injectionsTold, ybusTold, placeTold, Holds, Fits, injectionsAt, jacobianAt, Entries, Agrees, Found};
+ghost use Rattle.vectors.specs.Words.{wordOf, Tells, Found};
+ghost use Rattle.injection_vectors.specs.Told.{wordsTold, doublesTold, tableTold, columnsTold, columnTold, layoutTold, injectionsTold, ybusTold, placeTold, Holds, Fits, injectionsAt, jacobianAt, Entries, Agrees};
 use injections::Column;
 use injections::Injections;
 use layout::AcPfLayout;
@@ -302,20 +302,12 @@ fn point(s: &[u8], n: usize, m: usize, dim: usize) -> bool
     )
 }
 
-// Whether the input had n bytes more, which are then the first of s.
-fn read(s: &mut [u8], n: usize) -> bool
-    requires { ⌜ n ≤ length (now s) ⌝ }
-    ensures { λ _. ⌜ length (now (s .exit)) ≡ length (now (s .entry)) ⌝ }
-{
-    io::read_full(STDIN_FILENO, &mut s[..n]) == n
-}
-
 // One point: 0 where all agree, 1 where something differs, 2 where the input has no whole point left.
 fn next(head: &mut [u8], body: &mut [u8]) -> u64
     requires { ⌜ (length (now head) ≡ 24) × (length (now body) ≡ 44032) ⌝ }
-    ensures { λ r. ⌜ Found r (Agrees (now (body .exit)) (wordOf 0 (now (head .exit))) (wordOf 8 (now (head .exit))) (wordOf 16 (now (head .exit)))) ⌝ }
+    ensures { λ r. ⌜ Found 2 r (Agrees (now (body .exit)) (wordOf 0 (now (head .exit))) (wordOf 8 (now (head .exit))) (wordOf 16 (now (head .exit)))) ⌝ }
 {
-    if !read(head, 24) {
+    if !vectors::read(STDIN_FILENO, head, 24) {
         return 2;
     }
     let n = vectors::word(head, 0) as usize;
@@ -330,7 +322,7 @@ fn next(head: &mut [u8], body: &mut [u8]) -> u64
     if dim > 64 {
         return 2;
     }
-    if !read(body, m * 32 + n * 96 + dim * dim * 8) {
+    if !vectors::read(STDIN_FILENO, body, m * 32 + n * 96 + dim * dim * 8) {
         return 2;
     }
     if point(body, n, m, dim) {
@@ -351,7 +343,7 @@ fn main() {
     let mut back = room();
     let head: &mut [u8] = &mut front;
     let body: &mut [u8] = &mut back;
-    read(head, 8);
+    vectors::read(STDIN_FILENO, head, 8);
     let count = vectors::word(head, 0);
     let mut done = 0;
     let mut differing = 0;

@@ -1,6 +1,6 @@
 -- What the input says of a system: its right sides and then its entries row by row, eight bytes each. Every place of the workspace
 -- that is none of them holds a mark of its own.
-use Prim.Native.Nat.{ℕ, _+_, _*_, _≤_, _<_, _/_, _%_}
+use Prim.Native.Nat.{ℕ, _+_, _*_, _<_, _/_, _%_}
 use mathlib.Core.Path.{_≡_}
 use mathlib.Core.Bool.{cond}
 use mathlib.Core.List.{List}
@@ -45,9 +45,3 @@ numberOf (Singular c) = c
 pub record Agrees (s : List ℕ) (dim answer : ℕ) : Type 0 where
   pub answers : (w : List Float) → Holds w s 0 dim → numberOf (answerOf (solution dim w)) ≡ answer
   pub leaves : (w : List Float) → Holds w s 0 dim → Holds (spaceOf (solution dim w)) s (sizeOf dim * 8) dim
-
--- the answer of a turn: 0 where the solve agrees, 1 where it differs, 2 where the input has no whole system left
-pub record Found (r : ℕ) (P : Type 0) : Type 0 where
-  pub small : r ≤ 2
-  pub agreed : r ≡ 0 → P
-  pub differed : r ≡ 1 → P → ⊥

@@ -3,8 +3,8 @@
 ghost use mathlib.Core.Path.{_≡_};
 ghost use Prim.Native.Nat.{_+_, _*_, _≤_, _<_};
 ghost use lib.ListN.{length, replicate};
-ghost use Rattle.vectors.specs.Words.{wordOf, Tells};
-ghost use Rattle.linsolve_vectors.specs.Told.{sizeOf, slotOf, markOf, toldOf, Holds, numberOf, Agrees, Found};
+ghost use Rattle.vectors.specs.Words.{wordOf, Tells, Found};
+ghost use Rattle.linsolve_vectors.specs.Told.{sizeOf, slotOf, markOf, toldOf, Holds, numberOf, Agrees};
 use libc::STDIN_FILENO;
 use libc::STDOUT_FILENO;
 
@@ -99,27 +99,19 @@ fn agrees(s: &[u8], dim: usize, answer: u64) -> bool
     holds(w, s, size(dim) * 8, dim)
 }
 
-// Whether the input had n bytes more, which are then the first of s.
-fn read(s: &mut [u8], n: usize) -> bool
-    requires { ⌜ n ≤ length (now s) ⌝ }
-    ensures { λ _. ⌜ length (now (s .exit)) ≡ length (now (s .entry)) ⌝ }
-{
-    io::read_full(STDIN_FILENO, &mut s[..n]) == n
-}
-
 // One system: 0 where the solve agrees, 1 where it differs, 2 where the input has no whole system left.
 fn next(head: &mut [u8], body: &mut [u8]) -> u64
     requires { ⌜ (length (now head) ≡ 16) × (length (now body) ≡ 66560) ⌝ }
-    ensures { λ r. ⌜ Found r (Agrees (now (body .exit)) (wordOf 0 (now (head .exit))) (wordOf 8 (now (head .exit)))) ⌝ }
+    ensures { λ r. ⌜ Found 2 r (Agrees (now (body .exit)) (wordOf 0 (now (head .exit))) (wordOf 8 (now (head .exit)))) ⌝ }
 {
-    if !read(head, 16) {
+    if !vectors::read(STDIN_FILENO, head, 16) {
         return 2;
     }
     let dim = vectors::word(head, 0) as usize;
     if dim > 64 {
         return 2;
     }
-    if !read(body, size(dim) * 16) {
+    if !vectors::read(STDIN_FILENO, body, size(dim) * 16) {
         return 2;
     }
     if agrees(body, dim, vectors::word(head, 8)) {
@@ -140,7 +132,7 @@ fn main() {
     let mut back = room();
     let head: &mut [u8] = &mut front;
     let body: &mut [u8] = &mut back;
-    read(head, 8);
+    vectors::read(STDIN_FILENO, head, 8);
     let count = vectors::word(head, 0);
     let mut done = 0;
     let mut differing = 0;

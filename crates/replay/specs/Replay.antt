@@ -1,5 +1,5 @@
 -- What a record of the list says: the text and the answer that the solve program must print of it.
-use Prim.Native.Nat.{ℕ, _≤_}
+use Prim.Native.Nat.{ℕ}
 use mathlib.Core.Path.{_≡_}
 use mathlib.Core.List.{List}
 use lib.ListN.{take}
@@ -14,9 +14,3 @@ bytesOf text w = (reportOf text w) .bytes
 -- the report of a record's text is its answer: four bytes tell how many places of each buffer are theirs
 abbrev pub Answered : List ℕ → List ℕ → List ℕ → List Float → Type 0
 Answered head text answer w = bytesOf (take (pairOf 0 head) text) w ≡ take (pairOf 2 head) answer
-
--- the answer of a turn: 0 where the report is the answer, 1 where it differs, 2 and 3 where the list has no whole record left
-pub record Found (r : ℕ) (P : Type 0) : Type 0 where
-  pub small : r ≤ 3
-  pub agreed : r ≡ 0 → P
-  pub differed : r ≡ 1 → P → ⊥

@@ -3,8 +3,8 @@
 ghost use mathlib.Core.Path.{_≡_};
 ghost use Prim.Native.Nat.{_≤_};
 ghost use lib.ListN.{length};
-ghost use Rattle.vectors.specs.Words.{Tells};
-ghost use Rattle.replay.specs.Replay.{bytesOf, Answered, Found};
+ghost use Rattle.vectors.specs.Words.{Tells, Found};
+ghost use Rattle.replay.specs.Replay.{bytesOf, Answered};
 use libc::STDOUT_FILENO;
 
 // Whether two lists of bytes are one.
@@ -33,14 +33,6 @@ fn agrees(text: &[u8], answer: &[u8], out: &mut [u8; 4096], space: &mut [f64; 61
     same(&all[..k], answer)
 }
 
-// Whether the list had n bytes more, which are then the first of s.
-fn read(fd: i32, s: &mut [u8], n: usize) -> bool
-    requires { ⌜ n ≤ length (now s) ⌝ }
-    ensures { λ _. ⌜ length (now (s .exit)) ≡ length (now (s .entry)) ⌝ }
-{
-    io::read_full(fd, &mut s[..n]) == n
-}
-
 // One record: 0 where the report is the answer, 1 where it differs, 2 where the list has ended, 3 where it ends within the record.
 fn next(
     fd: i32,
@@ -51,7 +43,7 @@ fn next(
     space: &mut [f64; 6144],
 ) -> u64
     requires { ⌜ (length (now head) ≡ 4) × (length (now text) ≡ 65536) × (length (now answer) ≡ 65536) ⌝ }
-    ensures { λ r. ⌜ Found r (Answered (now (head .exit)) (now (text .exit)) (now (answer .exit)) (now (space .entry))) ⌝ }
+    ensures { λ r. ⌜ Found 3 r (Answered (now (head .exit)) (now (text .exit)) (now (answer .exit)) (now (space .entry))) ⌝ }
 {
     let got = io::read_full(fd, head);
     if got == 0 {
@@ -62,10 +54,10 @@ fn next(
     }
     let n = vectors::pair(head, 0) as usize;
     let m = vectors::pair(head, 2) as usize;
-    if !read(fd, text, n) {
+    if !vectors::read(fd, text, n) {
         return 3;
     }
-    if !read(fd, answer, m) {
+    if !vectors::read(fd, answer, m) {
         return 3;
     }
     if agrees(&text[..n], &answer[..m], out, space) {

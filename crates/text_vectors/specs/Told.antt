@@ -2,7 +2,7 @@
 use mathlib.Core.Path.{_≡_}
 use mathlib.Core.Bool.{cond}
 use mathlib.Core.List.{List, [], _∷_}
-use Prim.Native.Nat.{ℕ, zero, suc, _+_, _*_, _≤_, min}
+use Prim.Native.Nat.{ℕ, zero, suc, _+_, _*_, min}
 use lib.Dec.{eqb}
 use lib.ListN.{length, getD, replicate}
 use lib.Ieee.{Float, binary64, ofBits}
@@ -87,9 +87,3 @@ sevens m =
 -- the reader's definition gives what the record says of the text
 abbrev pub Agrees : List ℕ → List ℕ → Type 0
 Agrees text s = readOf text (sevens (widthTold s)) ≡ outcomeTold s (sevens (widthTold s))
-
--- the answer of a turn: 0 where the reading agrees, 1 where it differs, 2 where the input has no whole record left
-pub record Found (r : ℕ) (P : Type 0) : Type 0 where
-  pub small : r ≤ 2
-  pub agreed : r ≡ 0 → P
-  pub differed : r ≡ 1 → P → ⊥

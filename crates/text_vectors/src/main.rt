@@ -2,11 +2,11 @@
 // (oracle/text_vectors.py has the format). Before each reading a column holds 7 in every place, and it must still do so past the rows.
 ghost use mathlib.Core.Path.{_≡_};
 ghost use Prim.Native.Nat.{_+_, _*_, _≤_, _<_, min};
-ghost use lib.ListN.{length, take};
-ghost use Rattle.vectors.specs.Words.{pairOf, Tells};
+ghost use lib.ListN.{length, take, replicate};
+ghost use Rattle.vectors.specs.Words.{pairOf, Tells, Found};
 ghost use Rattle.case_text.specs.Trailer.{modeOf};
 ghost use Rattle.case_text.specs.Answer.{accepted, paperOf};
-ghost use Rattle.text_vectors.specs.Told.{numberIn, placeIn, refusal, rowsTold, paperTold, wordTold, numbersTold, realsTold, Agrees, Found};
+ghost use Rattle.text_vectors.specs.Told.{numberIn, placeIn, refusal, rowsTold, paperTold, wordTold, numbersTold, realsTold, Agrees};
 use libc::STDIN_FILENO;
 use libc::STDOUT_FILENO;
 
@@ -239,27 +239,19 @@ fn agrees(text: &[u8], s: &[u8]) -> bool
         & reals(s, 18, &y_im[..m])
 }
 
-// Whether the input had n bytes more, which are then the first of s.
-fn read(s: &mut [u8], n: usize) -> bool
-    requires { ⌜ n ≤ length (now s) ⌝ }
-    ensures { λ _. ⌜ length (now (s .exit)) ≡ length (now (s .entry)) ⌝ }
-{
-    io::read_full(STDIN_FILENO, &mut s[..n]) == n
-}
-
 // One text: 0 where its reading agrees, 1 where it differs, 2 where the input has no whole record left.
 fn next(head: &mut [u8], text: &mut [u8], s: &mut [u8]) -> u64
     requires { ⌜ (length (now head) ≡ 4) × (length (now text) ≡ 65536) × (length (now s) ≡ 600000) ⌝ }
-    ensures { λ r. ⌜ Found r (Agrees (take (pairOf 0 (now (head .exit))) (now (text .exit))) (now (s .exit))) ⌝ }
+    ensures { λ r. ⌜ Found 2 r (Agrees (take (pairOf 0 (now (head .exit))) (now (text .exit))) (now (s .exit))) ⌝ }
 {
-    if !read(head, 4) {
+    if !vectors::read(STDIN_FILENO, head, 4) {
         return 2;
     }
     let n = pair(head, 0);
-    if !read(text, n) {
+    if !vectors::read(STDIN_FILENO, text, n) {
         return 2;
     }
-    if !read(s, pair(head, 2)) {
+    if !vectors::read(STDIN_FILENO, s, pair(head, 2)) {
         return 2;
     }
     if agrees(&text[..n], s) {
@@ -270,7 +262,7 @@ fn next(head: &mut [u8], text: &mut [u8], s: &mut [u8]) -> u64
 
 // Room for any record: a start and rows of two bytes each lead no further than 65,535 + 65,536 * 8.
 fn room() -> [u8; 600000]
-    ensures { λ r. ⌜ 600000 ≡ length r ⌝ }
+    ensures { λ r. ⌜ (r ≡ replicate 600000 0) × (600000 ≡ length r) ⌝ }
 {
     [0; 600000]
 }
@@ -284,7 +276,7 @@ fn main() {
     let s: &mut [u8] = &mut back;
     let mut done = 0;
     let mut differing = 0;
-    read(head, 2);
+    vectors::read(STDIN_FILENO, head, 2);
     let count = pair(head, 0);
     while done < count {
         let found = next(head, text, s);

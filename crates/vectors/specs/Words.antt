@@ -1,7 +1,7 @@
 -- Words and doubles in a list of bytes, the highest byte first; and what the answer of a test says.
 use mathlib.Core.Path.{_≡_}
 use mathlib.Core.Bool.{Bool, true}
-use Prim.Native.Nat.{ℕ, _+_, _*_}
+use Prim.Native.Nat.{ℕ, _+_, _*_, _≤_}
 use mathlib.Core.List.{List}
 use lib.ListN.{getD}
 use lib.Ieee.{Float, binary64, ofBits}
@@ -18,3 +18,9 @@ doubleAt at s = ofBits binary64 (wordOf at s)
 -- b is true exactly where P holds
 abbrev pub Tells : Bool → Type 0 → Type 0
 Tells b P = (b ≡ true → P) × (P → b ≡ true)
+
+-- what a turn over the input answers: 0 where it agrees, 1 where it differs, more where no whole record is left
+pub record Found (most r : ℕ) (P : Type 0) : Type 0 where
+  pub small : r ≤ most
+  pub agreed : r ≡ 0 → P
+  pub differed : r ≡ 1 → P → ⊥

@@ -1,4 +1,4 @@
-// What the test programs share: words and doubles from the bytes of their input, and whether two doubles are one value.
+// What the test programs share: their input's bytes, words and doubles, and whether two doubles are one value.
 ghost use mathlib.Core.Path.{_≡_};
 ghost use Prim.Native.Nat.{_+_, _≤_, _<_};
 ghost use lib.ListN.{length};
@@ -60,4 +60,12 @@ pub fn same(x: f64, y: f64) -> bool
         return false;
     }
     f64::to_bits(x) == f64::to_bits(y)
+}
+
+// Whether a file had n bytes more, which are then the first of s.
+pub fn read(fd: i32, s: &mut [u8], n: usize) -> bool
+    requires { ⌜ n ≤ length (now s) ⌝ }
+    ensures { λ _. ⌜ length (now (s .exit)) ≡ length (now (s .entry)) ⌝ }
+{
+    io::read_full(fd, &mut s[..n]) == n
 }

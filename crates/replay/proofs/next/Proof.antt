@@ -5,12 +5,12 @@ use Prim.Native.Nat.{ℕ, _≤_}
 use native.Mathlib.Omega.{arith}
 use borrow.Author.Needs.{needs}
 use lib.Seq.{length-take-le}
-use Rattle.replay.specs.Replay.{Found}
+use Rattle.vectors.specs.Words.{Found}
 use Rattle.replay.proofs.next.Statement.{statement}
 use Rattle.replay.proofs.next.Tie as tie
 
 -- 2 and 3 say nothing of a report
-nothing : {r : ℕ} {P : Type 0} → 2 ≤ r → r ≤ 3 → Found r P
+nothing : {r : ℕ} {P : Type 0} → 2 ≤ r → r ≤ 3 → Found 3 r P
 nothing low high = record { small = high; agreed = λ e. absurd (omega arith); differed = λ e. absurd (omega arith) }
 
 slice-aggregate-agrees : tie.Need-slice-aggregate-agrees

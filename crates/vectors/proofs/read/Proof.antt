@@ -1,9 +1,9 @@
--- `linsolve_vectors::read` meets its contract: the part that is lent has n places. Assumes nothing.
+-- `vectors::read` meets its contract: the part that is lent has n places. Assumes nothing.
 use mathlib.Core.Path.{sym}
 use borrow.Author.Needs.{needs}
 use lib.Seq.{length-take-le}
-use Rattle.linsolve_vectors.proofs.read.Statement.{statement}
-use Rattle.linsolve_vectors.proofs.read.Tie as tie
+use Rattle.vectors.proofs.read.Statement.{statement}
+use Rattle.vectors.proofs.read.Tie as tie
 
 slice-aggregate-read-full : tie.Need-slice-aggregate-read-full
 slice-aggregate-read-full c = let s = c .before .before in sym (length-take-le (s .args .n) (s .args .s .now) (s .pre))
