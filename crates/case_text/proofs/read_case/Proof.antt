@@ -8,67 +8,37 @@ use Rattle.case_text.proofs.Refusals.{untouched}
 use Rattle.case_text.specs.declared.Room.{Room}
 use Rattle.case_text.proofs.read_case.Statement.{statement}
 use Rattle.case_text.proofs.read_case.Tie as tie
-use Rattle.case_text.proofs.read_case.Reads as reads
-use Rattle.case_text.proofs.read_case.Lts as lts
-use Rattle.case_text.proofs.judge.Reads as judge-reads
-use Rattle.case_text.proofs.least.Reads as least-reads
-use Rattle.case_text.proofs.least4.Reads as least4-reads
-use Rattle.case_text.proofs.least8.Reads as least8-reads
-use Rattle.case_text.proofs.section_places.Reads as section-places-reads
-use Rattle.columns.proofs.fill_buses.Reads as fill-buses-reads
-use Rattle.columns.proofs.fill_lines.Reads as fill-lines-reads
-use Rattle.columns.proofs.fill_sources.Reads as fill-sources-reads
 
 -- ---- the places on the way, by name
 
-abbrev claims : lts.Claims
-claims = (
-  least8-reads.Asked,
-  least8-reads.Learnt,
-  least-reads.Asked,
-  least-reads.Learnt,
-  least4-reads.Asked,
-  least4-reads.Learnt,
-  judge-reads.Asked,
-  judge-reads.Learnt,
-  section-places-reads.Asked,
-  section-places-reads.Learnt,
-  fill-buses-reads.Asked,
-  fill-buses-reads.Learnt,
-  fill-sources-reads.Asked,
-  fill-sources-reads.Learnt,
-  fill-lines-reads.Asked,
-  fill-lines-reads.Learnt,
-)
-
 abbrev Judged : Type 0
-Judged = lts.After-judge claims reads.Pre reads.Post
+Judged = tie.After-judge
 
 abbrev Told : Type 0
-Told = lts.After-enum-told claims reads.Pre reads.Post
+Told = tie.After-enum-told
 
 abbrev Buses : Type 0
-Buses = lts.After-fill-buses claims reads.Pre reads.Post
+Buses = tie.After-fill-buses
 
 abbrev Sources : Type 0
-Sources = lts.After-fill-sources claims reads.Pre reads.Post
+Sources = tie.After-fill-sources
 
 abbrev Lines : Type 0
-Lines = lts.After-fill-lines claims reads.Pre reads.Post
+Lines = tie.After-fill-lines
 
 abbrev Done : Type 0
-Done = lts.After-slice-known38 claims reads.Pre reads.Post
+Done = tie.After-slice-known38
 
 abbrev lines-of : Done → Lines
 lines-of c = c .before .before .before .before .before .before .before .before .before .before .before .before
 
-abbrev sources-of : lts.After-fill-lines-arg6 claims reads.Pre reads.Post → Sources
+abbrev sources-of : tie.After-fill-lines-arg6 → Sources
 sources-of c = c .before .before .before .before .before .before .before .before .before .before .before .before .before .before .before .before
 
-abbrev buses-of : lts.After-fill-sources-arg5 claims reads.Pre reads.Post → Buses
+abbrev buses-of : tie.After-fill-sources-arg5 → Buses
 buses-of c = c .before .before .before .before .before .before .before .before .before .before .before .before .before .before .before .before .before .before .before .before .before
 
-abbrev places-of : lts.After-fill-buses-arg8 claims reads.Pre reads.Post → lts.After-section-places claims reads.Pre reads.Post
+abbrev places-of : tie.After-fill-buses-arg8 → tie.After-section-places
 places-of c = c .before .before .before .before .before .before .before .before
 
 abbrev judged-of : Told → Judged
@@ -98,10 +68,10 @@ room-is c =
     same-room _ _ _ _ _ _ _ _ _ _ (c .before .before .before .before .before .before .least8 .ensures) (c .before .before .before .before .before .least .ensures)
     (rw (← c .before .before .before .before .least2 .ensures) (c .before .before .before .least3 .ensures)) (c .before .before .least4 .ensures) (c .before .least42 .ensures)
 
-abbrev Found : lts.After-section-places claims reads.Pre reads.Post → Type 0
+abbrev Found : tie.After-section-places → Type 0
 Found c = let j = judged-of (c .before) in Placed (start-of j .args .text .now) (roomOf (old (start-of j))) (c .section-places .result)
 
-found : (c : lts.After-section-places claims reads.Pre reads.Post) → Found c
+found : (c : tie.After-section-places) → Found c
 found c =
     let t = c .before in
     let j = judged-of t in

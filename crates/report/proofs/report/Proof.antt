@@ -9,6 +9,10 @@ use Rattle.report.proofs.Refusal.{refused-is}
 use Rattle.report.proofs.report.Statement.{statement}
 use Rattle.report.proofs.report.Tie as tie
 
+-- where the text has been read, from the first column lent on
+abbrev read-of : tie.After-kind3 → tie.After-read-case
+read-of c = c .before .before .before .before .before .before .before .before .before .before .before .before .before .before .before .before .before .before .before .before .before .before .before
+
 returns : tie.Need-returns
 returns c =
     let m = c .before .before in
@@ -55,24 +59,24 @@ report-spec =
     (λ c. search needs)
     (λ c κs. search needs)
     returns
-    (λ c. sym (c .before .before .before .before .before .before .before .before .before .before .before .before .before .before .before .before .before .before .before .before .before .before .before .read-case .kept .1 .0))
-    (λ c. sym (c .before .before .before .before .before .before .before .before .before .before .before .before .before .before .before .before .before .before .before .before .before .before .before .before .read-case .kept .1 .1 .0))
-    (λ c. sym (c .before .before .before .before .before .before .before .before .before .before .before .before .before .before .before .before .before .before .before .before .before .before .before .before .before .read-case .kept .1 .1 .1 .0))
-    (λ c. sym (c .before .before .before .before .before .before .before .before .before .before .before .before .before .before .before .before .before .before .before .before .before .before .before .before .before .before .read-case .kept .1 .1 .1 .1 .0))
-    (λ c. sym (c .before .before .before .before .before .before .before .before .before .before .before .before .before .before .before .before .before .before .before .before .before .before .before .before .before .before .before .read-case .kept .1 .1 .1 .1 .1 .0))
-    (λ c. sym (c .before .before .before .before .before .before .before .before .before .before .before .before .before .before .before .before .before .before .before .before .before .before .before .before .before .before .before .before .read-case .kept .1 .1 .1 .1 .1 .1 .0))
-    (λ c. sym (c .before .before .before .before .before .before .before .before .before .before .before .before .before .before .before .before .before .before .before .before .before .before .before .before .before .before .before .before .before .read-case .kept .1 .1 .1 .1 .1 .1 .1 .0))
-    (λ c. sym (c .before .before .before .before .before .before .before .before .before .before .before .before .before .before .before .before .before .before .before .before .before .before .before .before .before .before .before .before .before .before .read-case .kept .1 .1 .1 .1 .1 .1 .1 .1 .0))
-    (λ c. sym (c .before .before .before .before .before .before .before .before .before .before .before .before .before .before .before .before .before .before .before .before .before .before .before .before .before .before .before .before .before .before .before .read-case .kept .1 .1 .1 .1 .1 .1 .1 .1 .1 .0))
-    (λ c. sym (c .before .before .before .before .before .before .before .before .before .before .before .before .before .before .before .before .before .before .before .before .before .before .before .before .before .before .before .before .before .before .before .before .read-case .kept .1 .1 .1 .1 .1 .1 .1 .1 .1 .1 .0))
-    (λ c. sym (c .before .before .before .before .before .before .before .before .before .before .before .before .before .before .before .before .before .before .before .before .before .before .before .before .before .before .before .before .before .before .before .before .before .read-case .kept .1 .1 .1 .1 .1 .1 .1 .1 .1 .1 .1 .0))
-    (λ c. sym (c .before .before .before .before .before .before .before .before .before .before .before .before .before .before .before .before .before .before .before .before .before .before .before .before .before .before .before .before .before .before .before .before .before .before .read-case .kept .1 .1 .1 .1 .1 .1 .1 .1 .1 .1 .1 .1 .0))
-    (λ c. sym (c .before .before .before .before .before .before .before .before .before .before .before .before .before .before .before .before .before .before .before .before .before .before .before .before .before .before .before .before .before .before .before .before .before .before .before .read-case .kept .1 .1 .1 .1 .1 .1 .1 .1 .1 .1 .1 .1 .1 .0))
-    (λ c. sym (c .before .before .before .before .before .before .before .before .before .before .before .before .before .before .before .before .before .before .before .before .before .before .before .before .before .before .before .before .before .before .before .before .before .before .before .before .read-case .kept .1 .1 .1 .1 .1 .1 .1 .1 .1 .1 .1 .1 .1 .1 .0))
-    (λ c. sym (c .before .before .before .before .before .before .before .before .before .before .before .before .before .before .before .before .before .before .before .before .before .before .before .before .before .before .before .before .before .before .before .before .before .before .before .before .before .read-case .kept .1 .1 .1 .1 .1 .1 .1 .1 .1 .1 .1 .1 .1 .1 .1 .0))
-    (λ c. sym (c .before .before .before .before .before .before .before .before .before .before .before .before .before .before .before .before .before .before .before .before .before .before .before .before .before .before .before .before .before .before .before .before .before .before .before .before .before .before .read-case .kept .1 .1 .1 .1 .1 .1 .1 .1 .1 .1 .1 .1 .1 .1 .1 .1 .0))
-    (λ c. sym (c .before .before .before .before .before .before .before .before .before .before .before .before .before .before .before .before .before .before .before .before .before .before .before .before .before .before .before .before .before .before .before .before .before .before .before .before .before .before .before .read-case .kept .1 .1 .1 .1 .1 .1 .1 .1 .1 .1 .1 .1 .1 .1 .1 .1 .1 .0))
-    (λ c. sym (c .before .before .before .before .before .before .before .before .before .before .before .before .before .before .before .before .before .before .before .before .before .before .before .before .before .before .before .before .before .before .before .before .before .before .before .before .before .before .before .before .read-case .kept .1 .1 .1 .1 .1 .1 .1 .1 .1 .1 .1 .1 .1 .1 .1 .1 .1 .1 .0))
-    (λ c. sym (c .before .before .before .before .before .before .before .before .before .before .before .before .before .before .before .before .before .before .before .before .before .before .before .before .before .before .before .before .before .before .before .before .before .before .before .before .before .before .before .before .before .read-case .kept .1 .1 .1 .1 .1 .1 .1 .1 .1 .1 .1 .1 .1 .1 .1 .1 .1 .1 .1 .0))
+    (λ c. sym (read-of c .read-case .kept .1 .0))
+    (λ c. sym (read-of (c .before) .read-case .kept .1 .1 .0))
+    (λ c. sym (read-of (c .before .before) .read-case .kept .1 .1 .1 .0))
+    (λ c. sym (read-of (c .before .before .before) .read-case .kept .1 .1 .1 .1 .0))
+    (λ c. sym (read-of (c .before .before .before .before) .read-case .kept .1 .1 .1 .1 .1 .0))
+    (λ c. sym (read-of (c .before .before .before .before .before) .read-case .kept .1 .1 .1 .1 .1 .1 .0))
+    (λ c. sym (read-of (c .before .before .before .before .before .before) .read-case .kept .1 .1 .1 .1 .1 .1 .1 .0))
+    (λ c. sym (read-of (c .before .before .before .before .before .before .before) .read-case .kept .1 .1 .1 .1 .1 .1 .1 .1 .0))
+    (λ c. sym (read-of (c .before .before .before .before .before .before .before .before) .read-case .kept .1 .1 .1 .1 .1 .1 .1 .1 .1 .0))
+    (λ c. sym (read-of (c .before .before .before .before .before .before .before .before .before) .read-case .kept .1 .1 .1 .1 .1 .1 .1 .1 .1 .1 .0))
+    (λ c. sym (read-of (c .before .before .before .before .before .before .before .before .before .before) .read-case .kept .1 .1 .1 .1 .1 .1 .1 .1 .1 .1 .1 .0))
+    (λ c. sym (read-of (c .before .before .before .before .before .before .before .before .before .before .before) .read-case .kept .1 .1 .1 .1 .1 .1 .1 .1 .1 .1 .1 .1 .0))
+    (λ c. sym (read-of (c .before .before .before .before .before .before .before .before .before .before .before .before) .read-case .kept .1 .1 .1 .1 .1 .1 .1 .1 .1 .1 .1 .1 .1 .0))
+    (λ c. sym (read-of (c .before .before .before .before .before .before .before .before .before .before .before .before .before) .read-case .kept .1 .1 .1 .1 .1 .1 .1 .1 .1 .1 .1 .1 .1 .1 .0))
+    (λ c. sym (read-of (c .before .before .before .before .before .before .before .before .before .before .before .before .before .before) .read-case .kept .1 .1 .1 .1 .1 .1 .1 .1 .1 .1 .1 .1 .1 .1 .1 .0))
+    (λ c. sym (read-of (c .before .before .before .before .before .before .before .before .before .before .before .before .before .before .before) .read-case .kept .1 .1 .1 .1 .1 .1 .1 .1 .1 .1 .1 .1 .1 .1 .1 .1 .0))
+    (λ c. sym (read-of (c .before .before .before .before .before .before .before .before .before .before .before .before .before .before .before .before) .read-case .kept .1 .1 .1 .1 .1 .1 .1 .1 .1 .1 .1 .1 .1 .1 .1 .1 .1 .0))
+    (λ c. sym (read-of (c .before .before .before .before .before .before .before .before .before .before .before .before .before .before .before .before .before) .read-case .kept .1 .1 .1 .1 .1 .1 .1 .1 .1 .1 .1 .1 .1 .1 .1 .1 .1 .1 .0))
+    (λ c. sym (read-of (c .before .before .before .before .before .before .before .before .before .before .before .before .before .before .before .before .before .before) .read-case .kept .1 .1 .1 .1 .1 .1 .1 .1 .1 .1 .1 .1 .1 .1 .1 .1 .1 .1 .1 .0))
     put-solved-requires
     returns-2)
