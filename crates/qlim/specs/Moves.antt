@@ -94,6 +94,11 @@ moveAt kinds l t qd q vm hold b =
 unfoldable pub movesOf : ℕ → List BusKind → Limits → Track → List Float → List Float → List Float → List Float → List Move
 movesOf n kinds l t qd q vm hold = table n Keep (moveAt kinds l t qd q vm hold)
 
+-- whether any of the first k buses has a generator
+unfoldable pub anyGenerator : ℕ → List Bool → Bool
+anyGenerator zero has = false
+anyGenerator (suc k) has = anyGenerator k has || getD has k false
+
 unfoldable pub anyMove : ℕ → List Move → Bool
 anyMove zero ms = false
 anyMove (suc k) ms = anyMove k ms || isMove (getD ms k Keep)

@@ -10,7 +10,7 @@ ghost use mathlib.Core.Path.{_≡_};
 ghost use Prim.Native.Nat.{_≤_};
 ghost use lib.ListN.{length};
 ghost use Rattle.injections.specs.Injections.{ybus, Good, injectionsOf};
-ghost use Rattle.qlim.specs.Moves.{movePv, movePq, moveOf, isMove, kindAfter, schedAfter, convertedAfter, revertedAfter, pinOf, letterOf, movesOf, anyMove, kindsAfter, trackAfter, pinned, lettersOf};
+ghost use Rattle.qlim.specs.Moves.{movePv, movePq, moveOf, isMove, kindAfter, schedAfter, convertedAfter, revertedAfter, pinOf, letterOf, movesOf, anyMove, kindsAfter, trackAfter, pinned, lettersOf, anyGenerator};
 ghost use Rattle.qlim.specs.Rounds.{study, Ready, done, qlimOf};
 
 // What a bus does after a round.
@@ -275,6 +275,17 @@ fn letters(n: usize, kinds: [BusKind; 32]) -> [u8; 32]
     ls
 }
 
+fn any_generator(n: usize, has_gen: [bool; 32]) -> bool
+    requires { ⌜ n ≤ 32 ⌝ }
+    ensures { λ r. ⌜ r ≡ anyGenerator n «has_gen» ⌝ }
+{
+    let mut any = false;
+    for b in 0..n {
+        any = real::or(any, has_gen[b]);
+    }
+    any
+}
+
 // The moves at Newton's end: all buses are tested against the one set of figures there.
 fn switches(
     n: usize,
@@ -292,6 +303,12 @@ fn switches(
     requires { ⌜ Good n (ybus (now «y_row») (now «y_col») (now «y_re») (now «y_im»)) × (n ≤ length (now qd)) ⌝ }
     ensures { λ r. ⌜ r ≡ movesOf n kinds limits t (now (qd .entry)) (injectionsOf n (ybus (now («y_row» .entry)) (now («y_col» .entry)) (now («y_re» .entry)) (now («y_im» .entry))) (p .vm) (p .va) .power .q) (p .vm) «vm_hold» ⌝ }
 {
+    // Only a bus with a generator moves; without one no power is asked for.
+    let has_gen = limits.has_gen;
+    if !any_generator(n, has_gen) {
+        let still = [Move::Keep; 32];
+        return still;
+    }
     let vm = p.vm;
     let va = p.va;
     let found = injections::ac_injections(n, y_row, y_col, y_re, y_im, vm, va);

@@ -1,0 +1,93 @@
+#!/usr/bin/env python3
+"""Writes the inputs of the benchmark: the sample cases, and texts drawn from the generator's families by seed.
+
+    python3 bench/inputs.py ORACLE OUT BESIDE      ORACLE is target/oracle/oracle, the judge; the two folders are made anew
+
+OUT gets the list that is asked for, BESIDE a case of no buses. A drawn text is that of the first seed at which the altered Rust's counters show what the input is for.
+"""
+import glob
+import os
+import random
+import shutil
+import sys
+
+ROOT = os.path.join(os.path.dirname(os.path.abspath(__file__)), "..")
+sys.path.insert(0, os.path.join(ROOT, "oracle"))
+import cases  # noqa: E402
+import families as f  # noqa: E402
+
+
+def flat(rng):
+    """32 buses from the flat start."""
+    c = f.sized(rng, 32)
+    c.start = "F"
+    return c.text()
+
+
+def refused(rng):
+    """32 buses under a load that none of the six starts of a case start carries."""
+    c = f.network(rng, [32], 8.0)
+    c.start = "C"
+    return c.text()
+
+
+def wide(x):
+    """A real with all the 15 digits that it may have; other cells as they are."""
+    if isinstance(x, str):
+        return x
+    whole = len(str(int(abs(x))))
+    return f"{x:.{15 - whole}f}"
+
+
+def longest(rng):
+    """Every table full and every real of 15 digits: a good text can't have many more bytes."""
+    c = f.full(rng)
+    c.buses = [[row[0], *map(wide, row[1:])] for row in c.buses]
+    c.slacks = [[row[0], wide(row[1])] for row in c.slacks]
+    c.gens = [[row[0], *map(wide, row[1:])] for row in c.gens]
+    c.triplets = [[*row[:2], *map(wide, row[2:])] for row in c.triplets]
+    return c.text()
+
+
+def solved(text, answer, met):
+    return answer.startswith(b"ok ")
+
+
+# name: the family, and what the run must show.
+DRAWN = {
+    "flat32": (flat, solved),
+    "rounds12": (lambda rng: f.cascade(rng).text(), lambda text, answer, met: solved(text, answer, met) and met["rounds"] == 12),
+    "refused10": (refused, lambda text, answer, met: answer.startswith(b"refused 10 ") and answer.endswith(b" 6\n")),
+    "longest": (longest, solved),
+    "bytes32768": (f.long, lambda text, answer, met: len(text) == 32768),
+}
+
+
+def written(folder):
+    shutil.rmtree(folder, ignore_errors=True)
+    os.makedirs(folder)
+    return lambda name, text: open(os.path.join(folder, name + ".case"), "wb").write(text)
+
+
+def draw(oracle, family, wanted):
+    for seed in range(10000):
+        text = family(random.Random(seed))
+        (answer,), (met,) = cases.answers(oracle, [text])
+        if wanted(text, answer, met):
+            return text
+    sys.exit("no seed fits")
+
+
+def main():
+    if len(sys.argv) != 4:
+        sys.exit(__doc__)
+    oracle, out, beside = sys.argv[1:]
+    put = written(out)
+    for path in glob.glob(os.path.join(ROOT, "cases", "*.case")):
+        shutil.copy(path, out)
+    for name, (family, wanted) in DRAWN.items():
+        put(name, draw(oracle, family, wanted))
+    written(beside)("nobus", f.Case("F", [], [], [], [], []).text())
+
+
+main()
