@@ -7,6 +7,7 @@ use Prim.Native.Nat.{ℕ}
 use lib.ListN.{set}
 use lib.Seq.{sets}
 use lib.Ieee.{Float, nan, binary64, ofBits, div, neg, ofInt}
+use Rattle.real.specs.Paper.{given, refused, whole}
 use Rattle.fields.specs.Cut.{upto, past, has, pieces}
 use Rattle.fields.specs.Digits.{digits, number}
 use Rattle.fields.specs.Real.{amountOf}
@@ -15,12 +16,12 @@ use Rattle.rows.specs.Rows.{sectionOf, ended}
 use Rattle.rows.specs.declared.Section.the-variants as Section
 use Rattle.columns.specs.Columns.{columnOf, kindAt, realAt, numberAt}
 use Rattle.case_text.specs.Alphabet.{knownOf}
-use Rattle.case_text.specs.Trailer.{risingOf, trailerOf, bytesOf}
+use Rattle.trailer.specs.Trailer.{risingOf, trailerOf, bytesOf}
 use Rattle.case_text.specs.Text.{partOf, bodyOf, textOf}
-use Rattle.case_text.specs.Answer.{Columns, columns, roomOf, fitsOf, accepted, refused, outcome, filledFrom, writtenOf, readOf}
+use Rattle.case_text.specs.Answer.{Columns, columns, roomOf, fitsOf, outcome, filledFrom, writtenOf, readOf}
 use Rattle.case_text.specs.Answer.Laws.{same-bytes, columns-same}
 use Rattle.case_text.specs.declared.Tables.{Tables}
-use Rattle.case_text.specs.declared.Start.the-variants as Start
+use Rattle.trailer.specs.declared.Start.the-variants as Start
 use Rattle.case_text.specs.declared.Reading.the-variants as Reading
 
 -- the listing of 01, "One listing in full": 73 bytes
@@ -112,16 +113,16 @@ listing-written : (old : Columns) → writtenOf listing 35 old ≡ listing-colum
 unfolding writtenOf
 listing-written old = same-bytes _ _ _ _ _ line-B line-R [] [] line-Y old bytes-B bytes-R bytes-G bytes-L bytes-Y ∙ lines-written old
 
-pub listing-read : (old : Columns) → fitsOf listing-tables (roomOf old) ≡ true → readOf listing old ≡ outcome (accepted listing-tables) (listing-columns old)
+pub listing-read : (old : Columns) → fitsOf listing-tables (roomOf old) ≡ true → readOf listing old ≡ outcome (given listing-tables) (listing-columns old)
 unfolding readOf
-listing-read old h = rw (listing-text, h) (ap (outcome (accepted listing-tables)) (listing-written old))
+listing-read old h = rw (listing-text, h) (ap (outcome (given listing-tables)) (listing-written old))
 
 -- a bus line whose second field is `1.`
 abbrev pub point-text : List ℕ
 point-text =
     66 ∷ 32 ∷ 81 ∷ 32 ∷ 49 ∷ 46 ∷ 32 ∷ 48 ∷ 32 ∷ 48 ∷ 32 ∷ 48 ∷ 32 ∷ 48 ∷ 32 ∷ 63 ∷ 32 ∷ 63 ∷ 10 ∷ 70 ∷ 32 ∷ 48 ∷ 48 ∷ 48 ∷ 48 ∷ 48 ∷ 32 ∷ 48 ∷ 48 ∷ 48 ∷ 49 ∷ 57 ∷ 32 ∷ 48 ∷ 48 ∷ 48 ∷ 49 ∷ 57 ∷ 32 ∷ 48 ∷ 48 ∷ 48 ∷ 49 ∷ 57 ∷ 32 ∷ 48 ∷ 48 ∷ 48 ∷ 49 ∷ 57 ∷ 32 ∷ 48 ∷ 48 ∷ 48 ∷ 49 ∷ 57 ∷ 10 ∷ []
 
-pub point-refused : (old : Columns) → readOf point-text old ≡ outcome (refused 5 (4 ∷ [])) old
+pub point-refused : (old : Columns) → readOf point-text old ≡ outcome (refused 5 (whole 4 ∷ [])) old
 unfolding readOf writtenOf bytesOf partOf bodyOf trailerOf risingOf knownOf sectionOf ended fieldsOf allSome pieces upto past has digits number amountOf ofBits div neg ofInt
 point-refused old = refl
 
@@ -132,7 +133,7 @@ minus-text =
 
 pub minus-read : (i j : ℕ) (u v : Float)
     → readOf minus-text (columns [] [] [] [] [] [] [] [] (i ∷ j ∷ []) (u ∷ v ∷ []) [] [] [] [] [] [] [] [] [])
-    ≡ outcome (accepted (record { start = Start.Flat; buses = 0; slacks = 2; generators = 0; branches = 0; triplets = 0 }))
+    ≡ outcome (given (record { start = Start.Flat; buses = 0; slacks = 2; generators = 0; branches = 0; triplets = 0 }))
     (columns [] [] [] [] [] [] [] [] (0 ∷ 1 ∷ []) (ofBits binary64 0x8000000000000000 ∷ ofBits binary64 0xbfd0000000000000 ∷ []) [] [] [] [] [] [] [] [] [])
 unfolding readOf writtenOf bytesOf partOf bodyOf trailerOf risingOf knownOf sectionOf ended fieldsOf allSome pieces upto past has digits number amountOf ofBits div neg ofInt
 minus-read i j u v = refl

@@ -7,10 +7,11 @@ use mathlib.Core.List.{List}
 use Prim.Native.Nat.{ℕ, _-_}
 use native.Mathlib.Omega.{arith}
 use lib.Dec.{eqb}
-use lib.ListN.{length, getD}
-use Rattle.fields.specs.Cut.Laws.{decided}
+use lib.ListN.{length}
+use Rattle.real.specs.Tests.{decided}
+use Rattle.real.specs.Paper.{Paper, given, refused, placeIn}
 use Rattle.case_text.specs.Text.{textOf}
-use Rattle.case_text.specs.Answer.{Paper, accepted, refused, paperOf, Columns, roomOf, fitsOf, withRoom, judgedOf, writtenOf, Outcome, outcome, settledOf, readOf}
+use Rattle.case_text.specs.Answer.{paperOf, Columns, roomOf, fitsOf, withRoom, judgedOf, writtenOf, Outcome, outcome, settledOf, readOf}
 use Rattle.case_text.specs.declared.Tables.{Tables}
 use Rattle.case_text.specs.declared.Room.{Room}
 use Rattle.case_text.specs.declared.Reading.{Reading}
@@ -27,9 +28,9 @@ numbered n at =
     (cond (eqb n 4) (Reading.Form at)
     (cond (eqb n 5) (Reading.Field at) Reading.Short)))))
 
-abbrev back : Paper → Reading
-back (accepted c) = Reading.Good c
-back (refused n values) = numbered n (getD values 0 0)
+abbrev back : Paper Tables → Reading
+back (given c) = Reading.Good c
+back (refused n values) = numbered n (placeIn values)
 
 back-paper : (r : Reading) → back (paperOf r) ≡ r
 back-paper (Reading.Good c) = refl
@@ -44,7 +45,7 @@ back-paper Reading.Short = refl
 pub paper-tells : (r₁ r₂ : Reading) → paperOf r₁ ≡ paperOf r₂ → r₁ ≡ r₂
 paper-tells r₁ r₂ h = sym (back-paper r₁) ∙ ap back h ∙ back-paper r₂
 
-abbrev answer : Outcome → Paper
+abbrev answer : Outcome → Paper Tables
 answer (outcome p c) = p
 
 abbrev left : Outcome → Columns

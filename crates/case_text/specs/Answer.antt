@@ -6,28 +6,25 @@ use mathlib.Core.List.{List, [], _∷_}
 use lib.Dec.{leb}
 use lib.ListN.{length}
 use lib.Ieee.{Float}
+use Rattle.real.specs.Paper.{Paper, given, refused, whole}
 use Rattle.rows.specs.declared.Section.the-variants as Section
 use Rattle.columns.specs.Columns.{filled, realAt, numberAt, kindAt}
-use Rattle.case_text.specs.Trailer.{bytesOf}
+use Rattle.trailer.specs.Trailer.{bytesOf}
 use Rattle.case_text.specs.Text.{textOf}
 use Rattle.case_text.specs.declared.Tables.{Tables}
 use Rattle.case_text.specs.declared.Room.{Room}
 use Rattle.case_text.specs.declared.Reading.{Reading}
 use Rattle.case_text.specs.declared.Reading.the-variants as Reading
 
--- what 01's table says of an answer: the tables read, or the refusal's number and the values beside it
-pub data Paper : Type 0 where
-  accepted : Tables → Paper
-  refused : ℕ → List ℕ → Paper
-
-abbrev pub paperOf : Reading → Paper
-paperOf (Reading.Good c) = accepted c
-paperOf (Reading.Length at) = refused 1 (at ∷ [])
-paperOf (Reading.Trailer at) = refused 2 (at ∷ [])
-paperOf (Reading.Byte at) = refused 3 (at ∷ [])
-paperOf (Reading.Rows at) = refused 6 (at ∷ [])
-paperOf (Reading.Form at) = refused 4 (at ∷ [])
-paperOf (Reading.Field at) = refused 5 (at ∷ [])
+-- what 01's table says of an answer: the tables read, or the refusal's number and its place
+abbrev pub paperOf : Reading → Paper Tables
+paperOf (Reading.Good c) = given c
+paperOf (Reading.Length at) = refused 1 (whole at ∷ [])
+paperOf (Reading.Trailer at) = refused 2 (whole at ∷ [])
+paperOf (Reading.Byte at) = refused 3 (whole at ∷ [])
+paperOf (Reading.Rows at) = refused 6 (whole at ∷ [])
+paperOf (Reading.Form at) = refused 4 (whole at ∷ [])
+paperOf (Reading.Field at) = refused 5 (whole at ∷ [])
 paperOf Reading.Short = refused 9 []
 
 -- the 19 output columns
@@ -77,11 +74,11 @@ writtenOf s t old = filledFrom (bytesOf Section.B s t) (bytesOf Section.R s t) (
 
 -- the answer and the columns afterwards
 pub data Outcome : Type 0 where
-  outcome : Paper → Columns → Outcome
+  outcome : Paper Tables → Columns → Outcome
 
 -- "A reader refusal leaves its output columns untouched."
 abbrev pub settledOf : List ℕ → Reading → Columns → Outcome
-settledOf s (Reading.Good c) old = outcome (accepted c) (writtenOf s (length s - 38) old)
+settledOf s (Reading.Good c) old = outcome (given c) (writtenOf s (length s - 38) old)
 settledOf s (Reading.Length at) old = outcome (paperOf (Reading.Length at)) old
 settledOf s (Reading.Trailer at) old = outcome (paperOf (Reading.Trailer at)) old
 settledOf s (Reading.Byte at) old = outcome (paperOf (Reading.Byte at)) old

@@ -7,7 +7,7 @@ use lib.Seq.{slice}
 use Rattle.rows.specs.Printed.{printed, tableOf}
 use Rattle.rows.specs.declared.Section.{Section}
 use Rattle.rows.specs.declared.Section.the-variants as Section
-use Rattle.case_text.specs.Trailer.{bytesOf}
+use Rattle.trailer.specs.Trailer.{bytesOf}
 
 -- the rows of a section, printed
 abbrev pub rowsPrinted : Section → List ℕ → ℕ → List ℕ

@@ -12,7 +12,7 @@ use Rattle.rows.specs.declared.Section.the-variants as Section
 use Rattle.rows.specs.declared.Check.{Check}
 use Rattle.rows.specs.declared.Check.the-variants as Check
 use Rattle.case_text.specs.Alphabet.{knownOf}
-use Rattle.case_text.specs.Trailer.{modeOf, trailerOf, startOf, bytesOf}
+use Rattle.trailer.specs.Trailer.{modeOf, trailerOf, startOf, bytesOf}
 use Rattle.case_text.specs.declared.Reading.{Reading}
 use Rattle.case_text.specs.declared.Reading.the-variants as Reading
 

@@ -1,24 +1,18 @@
-// The case text: its trailer, its alphabet, its sections in turn, and then its columns.
+// The case text: its length, its trailer, its alphabet, its sections in turn, and then its columns.
 ghost use mathlib.Core.Path.{_≡_};
 ghost use mathlib.Core.Bool.{true};
-ghost use Prim.Native.Nat.{_+_, _-_, _*_, _≤_, min};
+ghost use Prim.Native.Nat.{_+_, _≤_, min};
 ghost use lib.ListN.{length};
 ghost use lib.Seq.{slice};
 ghost use Rattle.fields.specs.Cut.{has};
+ghost use Rattle.trailer.specs.Trailer.{trailerOf};
 ghost use Rattle.case_text.specs.Alphabet.{alphabet, knownOf};
-ghost use Rattle.case_text.specs.Trailer.{groupOf, startAt, risingOf, flagged, modeOf, trailerOf, offsetOf, nextOf, startOf, endOf, placesOf};
 ghost use Rattle.case_text.specs.Text.{partOf, refusedOf, bodyOf, textOf};
 ghost use Rattle.case_text.specs.Answer.{columns, outcome, paperOf, readOf, fitsOf, judgedOf};
 
-// Which start a text asks for.
-pub enum Start {
-    Flat,
-    Case,
-}
-
 // What a good text holds: its start, and the rows of each table.
 pub struct Tables {
-    pub start: Start,
+    pub start: trailer::Start,
     pub buses: usize,
     pub slacks: usize,
     pub generators: usize,
@@ -47,16 +41,6 @@ struct Room {
     triplets: usize,
 }
 
-// Where the sections start, and the trailer.
-struct Places {
-    b: usize,
-    r: usize,
-    g: usize,
-    l: usize,
-    y: usize,
-    t: usize,
-}
-
 // Whether a byte is of the alphabet.
 fn known(b: u8) -> bool
     ensures { λ r. ⌜ r ≡ has b alphabet ⌝ }
@@ -81,171 +65,11 @@ fn stranger(s: &[u8], e: usize) -> usize
     i
 }
 
-// A space and five digits.
-fn group(s: &[u8], at: usize) -> fields::Digits
-    requires { ⌜ at + 6 ≤ length (now s) ⌝ }
-    ensures { λ r. ⌜ r ≡ groupOf (now (s .entry)) at ⌝ }
-{
-    if s[at] == 32 {
-        return fields::whole(s, at + 1, at + 6, 0);
-    }
-    fields::Digits::Other
-}
-
-// The text and the place from which it is read on, kept together.
-struct Reader<'a> {
-    text: &'a [u8],
-    at: usize,
-}
-
-fn placed<'a>(text: &'a [u8], at: usize) -> Reader<'a>
-    ensures { λ r. ⌜ (r .text ≡ text .entry) × (r .at ≡ at) ⌝ }
-{
-    Reader { text, at }
-}
-
-fn next_group<'a>(r: Reader<'a>) -> fields::Digits
-    requires { ⌜ r .at + 6 ≤ length (now (r .text)) ⌝ }
-    ensures { λ g. ⌜ g ≡ groupOf (now (r .entry .text)) (r .entry .at) ⌝ }
-{
-    group(r.text, r.at)
-}
-
-// The group at a place, for callers that have the text and the place apart.
-fn group_at(s: &[u8], at: usize) -> fields::Digits
-    requires { ⌜ at + 6 ≤ length (now s) ⌝ }
-    ensures { λ r. ⌜ r ≡ groupOf (now (s .entry)) at ⌝ }
-{
-    next_group(placed(s, at))
-}
-
-// The number of a group.
-fn start_at(s: &[u8], at: usize) -> usize
-    requires { ⌜ at + 6 ≤ length (now s) ⌝ }
-    ensures { λ r. ⌜ r ≡ startAt (now (s .entry)) at ⌝ }
-{
-    fields::number_in(group_at(s, at))
-}
-
-// Whether n groups stand from at on, whose numbers never fall, and the last is `end`.
-fn rising(s: &[u8], at: usize, n: usize, end: usize) -> bool
-    requires { ⌜ at + 6 * n ≤ length (now s) ⌝ }
-    ensures { λ r. ⌜ r ≡ risingOf n (now (s .entry)) at 0 end ⌝ }
-{
-    let mut low: usize = 0;
-    let mut i = at;
-    let mut k = n;
-    while 0 < k {
-        let fields::Digits::Number(m) = group_at(s, i) else {
-            return false;
-        };
-        if m < low {
-            return false;
-        }
-        low = m;
-        i += 6;
-        k -= 1;
-    }
-    low == end
-}
-
-fn is_flag(b: u8) -> bool
-    ensures { λ r. ⌜ r ≡ flagged b ⌝ }
-{
-    if b == 70 {
-        return true;
-    }
-    b == 67
-}
-
-fn mode(b: u8) -> Start
-    ensures { λ r. ⌜ r ≡ modeOf b ⌝ }
-{
-    if b == 70 {
-        return Start::Flat;
-    }
-    Start::Case
-}
-
-// Whether the 38 bytes from t on are a trailer.
-fn trailer(s: &[u8], t: usize) -> bool
-    requires { ⌜ t + 38 ≤ length (now s) ⌝ }
-    ensures { λ r. ⌜ r ≡ trailerOf (now (s .entry)) t ⌝ }
-{
-    if is_flag(s[t]) {
-        if s[t + 37] == 10 {
-            if start_at(s, t + 1) == 0 {
-                return rising(s, t + 1, 6, t);
-            }
-        }
-    }
-    false
-}
-
-// Where a section's number stands, and where the next one's, counted from the trailer's start.
-fn offset(z: rows::Section) -> usize
-    ensures { λ r. ⌜ (r ≡ offsetOf z) × (r ≤ 25) ⌝ }
-{
-    match z {
-        rows::Section::B => 1,
-        rows::Section::R => 7,
-        rows::Section::G => 13,
-        rows::Section::L => 19,
-        rows::Section::Y => 25,
-    }
-}
-
-fn next_offset(z: rows::Section) -> usize
-    ensures { λ r. ⌜ (r ≡ nextOf z) × (r ≤ 31) ⌝ }
-{
-    match z {
-        rows::Section::B => 7,
-        rows::Section::R => 13,
-        rows::Section::G => 19,
-        rows::Section::L => 25,
-        rows::Section::Y => 31,
-    }
-}
-
-// Where a section starts.
-fn start_of(s: &[u8], t: usize, z: rows::Section) -> usize
-    requires { ⌜ t + 38 ≤ length (now s) ⌝ }
-    ensures { λ r. ⌜ r ≡ startOf z (now (s .entry)) t ⌝ }
-{
-    let k = offset(z);
-    start_at(s, t + k)
-}
-
-// Where a section ends: at the next one's start.
-fn end_of(s: &[u8], t: usize, z: rows::Section) -> usize
-    requires { ⌜ t + 38 ≤ length (now s) ⌝ }
-    ensures { λ r. ⌜ r ≡ endOf z (now (s .entry)) t ⌝ }
-{
-    let k = next_offset(z);
-    start_at(s, t + k)
-}
-
-// Where the sections of a good text start, and its trailer.
-fn section_places(s: &[u8]) -> Places
-    requires { ⌜ 38 ≤ length (now s) ⌝ }
-    ensures { λ r. ⌜ r ≡ placesOf (now (s .entry)) (length (now (s .entry)) - 38) ⌝ }
-{
-    let t = s.len() - 38;
-    Places {
-        b: start_of(s, t, rows::Section::B),
-        r: start_of(s, t, rows::Section::R),
-        g: start_of(s, t, rows::Section::G),
-        l: start_of(s, t, rows::Section::L),
-        y: start_of(s, t, rows::Section::Y),
-        t: end_of(s, t, rows::Section::Y),
-    }
-}
-
 fn check_part(s: &[u8], t: usize, z: rows::Section) -> rows::Check
     requires { ⌜ (t + 38 ≤ length (now s)) × (trailerOf (now s) t ≡ true) ⌝ }
     ensures { λ r. ⌜ r ≡ partOf z (now (s .entry)) t ⌝ }
 {
-    rows::check_section(s, start_of(s, t, z), end_of(s, t, z), z)
+    rows::check_section(s, trailer::start_of(s, t, z), trailer::end_of(s, t, z), z)
 }
 
 // What a section's refusal is of the text.
@@ -286,7 +110,7 @@ fn body(s: &[u8], t: usize) -> Reading
         return refused(vy);
     };
     Reading::Good(Tables {
-        start: mode(s[t]),
+        start: trailer::mode(s[t]),
         buses: nb,
         slacks: nr,
         generators: ng,
@@ -307,7 +131,7 @@ fn check_text(s: &[u8]) -> Reading
         return Reading::Length(32768);
     }
     let t = n - 38;
-    if !trailer(s, t) {
+    if !trailer::is_trailer(s, t) {
         return Reading::Trailer(t);
     }
     let p = stranger(s, t);
@@ -317,22 +141,16 @@ fn check_text(s: &[u8]) -> Reading
     body(s, t)
 }
 
-fn least(a: usize, b: usize) -> usize
-    ensures { λ r. ⌜ r ≡ min a b ⌝ }
-{
-    if a < b { a } else { b }
-}
-
 fn least4(a: usize, b: usize, c: usize, d: usize) -> usize
     ensures { λ r. ⌜ r ≡ min (min a b) (min c d) ⌝ }
 {
-    least(least(a, b), least(c, d))
+    real::least(real::least(a, b), real::least(c, d))
 }
 
 fn least8(a: usize, b: usize, c: usize, d: usize, e: usize, f: usize, g: usize, h: usize) -> usize
     ensures { λ r. ⌜ r ≡ min (min (min a b) (min c d)) (min (min e f) (min g h)) ⌝ }
 {
-    least(least4(a, b, c, d), least4(e, f, g, h))
+    real::least(least4(a, b, c, d), least4(e, f, g, h))
 }
 
 // Whether each table's rows fit its shortest column.
@@ -405,16 +223,16 @@ pub fn read_case(
             vm_case.len(),
             va_case.len(),
         ),
-        slacks: least(slacks.len(), va_slacks.len()),
-        generators: least(least(gen_bus.len(), qmin.len()), qmax.len()),
-        branches: least(br_from.len(), br_to.len()),
+        slacks: real::least(slacks.len(), va_slacks.len()),
+        generators: real::least(real::least(gen_bus.len(), qmin.len()), qmax.len()),
+        branches: real::least(br_from.len(), br_to.len()),
         triplets: least4(y_row.len(), y_col.len(), y_re.len(), y_im.len()),
     };
     let v = judge(text, room);
     let Reading::Good(_) = v else {
         return v;
     };
-    let p = section_places(text);
+    let p = trailer::section_places(text);
     let r = p.r;
     let g = p.g;
     let l = p.l;

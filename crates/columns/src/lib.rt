@@ -22,7 +22,7 @@ fn piece(s: &[u8], a: usize, e: usize, n: usize) -> Part
     let mut i = a;
     let mut k = n;
     loop {
-        let q = fields::find(s, i, e, 32);
+        let q = fields::find(s, i, e, b' ');
         if k == 0 {
             return Part { from: i, to: q };
         }
@@ -74,7 +74,7 @@ fn fill_reals(s: &[u8], a: usize, e: usize, j: usize, out: &mut [f64])
     let mut i = a;
     let mut r: usize = 0;
     while i < e {
-        let p = fields::find(s, i, e, 10);
+        let p = fields::find(s, i, e, b'\n');
         if p == e {
             return;
         }
@@ -92,7 +92,7 @@ fn fill_numbers(s: &[u8], a: usize, e: usize, j: usize, out: &mut [usize])
     let mut i = a;
     let mut r: usize = 0;
     while i < e {
-        let p = fields::find(s, i, e, 10);
+        let p = fields::find(s, i, e, b'\n');
         if p == e {
             return;
         }
@@ -110,7 +110,7 @@ fn fill_kinds(s: &[u8], a: usize, e: usize, j: usize, out: &mut [u8])
     let mut i = a;
     let mut r: usize = 0;
     while i < e {
-        let p = fields::find(s, i, e, 10);
+        let p = fields::find(s, i, e, b'\n');
         if p == e {
             return;
         }

@@ -2,9 +2,10 @@
 use Prim.Native.Nat.{ℕ}
 use mathlib.Core.Path.{_≡_}
 use mathlib.Core.List.{List, [], _∷_, _++_}
-use lib.IntN.{pos, negsuc}
+use lib.IntN.{negsuc}
 use lib.ListN.{take}
 use lib.Ieee.{Float, nan, binary64, ofInt, ofBits}
+use Rattle.real.specs.Literals.{double}
 use Rattle.real.specs.Norm.{normOf}
 use Rattle.mix.specs.Noise.{mixOf}
 use Rattle.trig.specs.Sine.{sinCosOf}
@@ -42,10 +43,6 @@ abbrev pub Hold : List Row → Type 0
 Hold [] = Unit
 Hold (r ∷ rs) = (r .given ≡ r .expected) × Hold rs
 
--- a whole number as a double
-abbrev whole : ℕ → Float
-whole n = ofInt binary64 (pos n)
-
 abbrev minus-one : Float
 minus-one = ofInt binary64 (negsuc 0)
 
@@ -60,9 +57,9 @@ table w =
     -- mix(0,0) = -1
     ∷ row (reals (mixOf 0 0 ∷ [])) (reals (minus-one ∷ []))
     -- norm of nothing 0, of (-2,1) 2, of (3,NaN) NaN
-    ∷ row (reals (normOf 0 [] ∷ [])) (reals (whole 0 ∷ []))
-    ∷ row (reals (normOf 2 (minus-two ∷ whole 1 ∷ []) ∷ [])) (reals (whole 2 ∷ []))
-    ∷ row (reals (normOf 2 (whole 3 ∷ nan ∷ []) ∷ [])) (reals (nan ∷ []))
+    ∷ row (reals (normOf 0 [] ∷ [])) (reals (double 0 ∷ []))
+    ∷ row (reals (normOf 2 (minus-two ∷ double 1 ∷ []) ∷ [])) (reals (double 2 ∷ []))
+    ∷ row (reals (normOf 2 (double 3 ∷ nan ∷ []) ∷ [])) (reals (nan ∷ []))
     -- `-0` is 8000000000000000; `-0.25` is bfd0000000000000
     ∷ row (field (realOf (45 ∷ 48 ∷ []))) (field (Real.Value (ofBits binary64 0x8000000000000000)))
     ∷ row (field (realOf (45 ∷ 48 ∷ 46 ∷ 50 ∷ 53 ∷ []))) (field (Real.Value (ofBits binary64 0xbfd0000000000000)))
@@ -75,11 +72,11 @@ table w =
     -- five buses with lines 0-3 and 1-2 are labelled 0,1,1,0,2
     ∷ row (numbers (labelsOf 5 (0 ∷ 1 ∷ []) (3 ∷ 2 ∷ []))) (numbers (0 ∷ 1 ∷ 1 ∷ 0 ∷ 2 ∷ []))
     -- sine 0 is 0, cosine 0 is 1; sine 1025 is NaN
-    ∷ row (reals (sinCosOf (whole 0) .sin ∷ [])) (reals (whole 0 ∷ []))
-    ∷ row (reals (sinCosOf (whole 0) .cos ∷ [])) (reals (whole 1 ∷ []))
-    ∷ row (reals (sinCosOf (whole 1025) .sin ∷ [])) (reals (nan ∷ []))
+    ∷ row (reals (sinCosOf (double 0) .sin ∷ [])) (reals (double 0 ∷ []))
+    ∷ row (reals (sinCosOf (double 0) .cos ∷ [])) (reals (double 1 ∷ []))
+    ∷ row (reals (sinCosOf (double 1025) .sin ∷ [])) (reals (nan ∷ []))
     -- rows (0,2),(4,0) with right side (6,8) give (2,3); a 1 by 1 zero is singular
     ∷ row (solve (answerOf (solution 2 pair))) (solve Solved)
-    ∷ row (reals (sides 2 (spaceOf (solution 2 pair)))) (reals (whole 2 ∷ whole 3 ∷ []))
+    ∷ row (reals (sides 2 (spaceOf (solution 2 pair)))) (reals (double 2 ∷ double 3 ∷ []))
     ∷ row (solve (answerOf (solution 1 single))) (solve (Singular 0))
     ∷ []

@@ -60,13 +60,13 @@ pub fn whole(s: &[u8], a: usize, e: usize, from: usize) -> Digits
     let mut i = a;
     while i < e {
         let b = s[i];
-        if b < 48 {
+        if b < b'0' {
             return Digits::Other;
         }
-        if 57 < b {
+        if b'9' < b {
             return Digits::Other;
         }
-        m = m * 10 + ((b - 48) as usize);
+        m = m * 10 + ((b - b'0') as usize);
         i += 1;
     }
     Digits::Number(m)
@@ -82,7 +82,7 @@ pub fn read_bus(s: &[u8], a: usize, e: usize) -> Digits
     if 3 < e - a {
         return Digits::Other;
     }
-    if s[a] == 48 {
+    if s[a] == b'0' {
         if a + 1 < e {
             return Digits::Other;
         }
@@ -161,7 +161,7 @@ fn unsigned(s: &[u8], a: usize, e: usize) -> Real
     requires { ⌜ (a ≤ e) × (e ≤ length (now s)) ⌝ }
     ensures { λ r. ⌜ r ≡ unsignedOf (slice a e (now (s .entry))) ⌝ }
 {
-    let p = find(s, a, e, 46);
+    let p = find(s, a, e, b'.');
     if p < e {
         if p + 1 == e {
             return Real::Wrong;
@@ -187,7 +187,7 @@ pub fn read_real(s: &[u8], a: usize, e: usize) -> Real
     if a == e {
         return Real::Wrong;
     }
-    if s[a] == 45 {
+    if s[a] == b'-' {
         return negated(unsigned(s, a + 1, e));
     }
     unsigned(s, a, e)
@@ -198,7 +198,7 @@ pub fn real_or_nan(s: &[u8], a: usize, e: usize) -> Real
     requires { ⌜ (a ≤ e) × (e ≤ length (now s)) ⌝ }
     ensures { λ r. ⌜ r ≡ orNanOf (slice a e (now (s .entry))) ⌝ }
 {
-    if is_byte(s, a, e, 63) {
+    if is_byte(s, a, e, b'?') {
         return Real::Value(0.0 / 0.0);
     }
     read_real(s, a, e)

@@ -92,7 +92,7 @@ unfoldable pub injectionsAt : List ℕ → ℕ → ℕ → Injections
 injectionsAt s n m = injectionsOf n (ybusTold s m) (vmTold s n m) (vaTold s n m)
 
 unfoldable pub jacobianAt : List ℕ → ℕ → ℕ → ℕ → List Float → List Float
-jacobianAt s n m dim w = jacobianOf n (ybusTold s m) (vaTold s n m) (phasorsOf n (ybusTold s m) (vmTold s n m) (vaTold s n m)) (layoutTold s (m * 32 + n * 16) n dim) w
+jacobianAt s n m dim w = jacobianOf (ybusTold s m) (vaTold s n m) (phasorsOf n (ybusTold s m) (vmTold s n m) (vaTold s n m)) (layoutTold s (m * 32 + n * 16) n dim) w
 
 -- the Jacobian, added to zeros, is what is told
 abbrev pub Entries : List ℕ → ℕ → ℕ → ℕ → Type 0

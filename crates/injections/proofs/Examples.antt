@@ -1,12 +1,10 @@
 -- The smallest case in which two diagonal triplets on one bus count the current twice, computed: a V bus at 1 with the admittance j + j.
 -- Assumes nothing.
-use Prim.Native.Nat.{ℕ}
 use mathlib.Core.Path.{_≡_, refl}
 use mathlib.Core.List.{List, [], _∷_}
-use lib.IntN.{pos}
 use lib.ListN.{replicate}
-use lib.Ieee.{Float, binary64, ofInt, ofBits, add, sub, mul}
-use Rattle.real.specs.Literals.{nought}
+use lib.Ieee.{Float, ofInt, ofBits, add, sub, mul}
+use Rattle.real.specs.Literals.{double, nought}
 use Rattle.layout.specs.declared.AcPfLayout.{AcPfLayout}
 use Rattle.layout.specs.Layout.{none}
 use Rattle.linsolve.specs.Linear as Linear
@@ -14,20 +12,16 @@ use Rattle.injections.specs.declared.Phasors.{Phasors}
 use Rattle.injections.specs.Injections.{Ybus, ybus, at, currentsTo}
 use Rattle.injections.specs.Jacobian.{jacobianOf, jacobianTo}
 
--- a whole number as a double
-abbrev whole : ℕ → Float
-whole n = ofInt binary64 (pos n)
-
 -- j twice, and 2 j once
 abbrev pub twice : Ybus
-twice = ybus (0 ∷ 0 ∷ []) (0 ∷ 0 ∷ []) (whole 0 ∷ whole 0 ∷ []) (whole 1 ∷ whole 1 ∷ [])
+twice = ybus (0 ∷ 0 ∷ []) (0 ∷ 0 ∷ []) (double 0 ∷ double 0 ∷ []) (double 1 ∷ double 1 ∷ [])
 
 abbrev pub once : Ybus
-once = ybus (0 ∷ []) (0 ∷ []) (whole 0 ∷ []) (whole 2 ∷ [])
+once = ybus (0 ∷ []) (0 ∷ []) (double 0 ∷ []) (double 2 ∷ [])
 
 -- the voltage 1, and the current 2 j that either drives
 abbrev pub phasors : Phasors
-phasors = record { v = record { re = whole 1 ∷ []; im = whole 0 ∷ [] }; i = record { re = whole 0 ∷ []; im = whole 2 ∷ [] } }
+phasors = record { v = record { re = double 1 ∷ []; im = double 0 ∷ [] }; i = record { re = double 0 ∷ []; im = double 2 ∷ [] } }
 
 -- one unknown: the angle
 abbrev pub lone : AcPfLayout
@@ -44,10 +38,10 @@ pub current-of-once : at (currentsTo 1 once (phasors .v)) 0 ≡ at (phasors .i) 
 unfolding currentsTo ofInt ofBits add sub mul
 current-of-once = refl
 
-pub counted-twice : Linear.at (jacobianOf 1 twice (whole 0 ∷ []) phasors lone space) 0 ≡ whole 2
+pub counted-twice : Linear.at (jacobianOf twice (double 0 ∷ []) phasors lone space) 0 ≡ double 2
 unfolding jacobianTo ofInt ofBits add sub mul
 counted-twice = refl
 
-pub counted-once : Linear.at (jacobianOf 1 once (whole 0 ∷ []) phasors lone space) 0 ≡ whole 0
+pub counted-once : Linear.at (jacobianOf once (double 0 ∷ []) phasors lone space) 0 ≡ double 0
 unfolding jacobianTo ofInt ofBits add sub mul
 counted-once = refl

@@ -55,7 +55,7 @@ stored c b x = record { re = set (c .re) b (x .re); im = set (c .im) b (x .im) }
 abbrev pub columnOf : ℕ → (ℕ → Complex) → Column
 columnOf n f = record { re = table n nought (λ b. f b .re); im = table n nought (λ b. f b .im) }
 
--- "voltages as polar numbers": of bus b, from its magnitude and angle
+-- the voltage of bus b, a polar number of its magnitude and angle
 abbrev pub voltageAt : List Float → List Float → ℕ → Complex
 voltageAt vm va b = polarOf (getD vm b nan) (getD va b nan)
 

@@ -73,5 +73,5 @@ jacobianTo (suc k) y va s l w =
     enteredAll (getD (l .«p_of») a 0) (getD (l .«q_of») a 0) (getD (l .«va_of») b 0) (getD (l .«vm_of») b 0) (derivativesAt y va s k) (jacobianTo k y va s l w)
 
 -- and after all of them
-abbrev pub jacobianOf : ℕ → Ybus → List Float → Phasors → AcPfLayout → List Float → List Float
-jacobianOf n y va s l w = jacobianTo (length (y .row)) y va s l w
+abbrev pub jacobianOf : Ybus → List Float → Phasors → AcPfLayout → List Float → List Float
+jacobianOf y va s l w = jacobianTo (length (y .row)) y va s l w

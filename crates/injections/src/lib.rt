@@ -228,7 +228,7 @@ pub fn ac_jacobian(
     w: &mut [f64],
 )
     requires { ⌜ Good n (ybus (now «y_row») (now «y_col») (now «y_re») (now «y_im»)) × (4160 ≤ length (now w)) ⌝ }
-    ensures { λ _. ⌜ now (w .exit) ≡ jacobianOf n (ybus (now («y_row» .entry)) (now («y_col» .entry)) (now («y_re» .entry)) (now («y_im» .entry))) va s layout (now (w .entry)) ⌝ }
+    ensures { λ _. ⌜ now (w .exit) ≡ jacobianOf (ybus (now («y_row» .entry)) (now («y_col» .entry)) (now («y_re» .entry)) (now («y_im» .entry))) va s layout (now (w .entry)) ⌝ }
 {
     // Voltages of magnitude one, once for each bus and not for each triplet.
     let unit = voltages(n, [1.0; 32], va);

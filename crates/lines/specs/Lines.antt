@@ -9,7 +9,7 @@ use lib.ListN.{length, getD}
 use lib.Seq.{sets}
 use lib.Ieee.{Float, nan, binary64, isNan, toBits}
 use Rattle.io.specs.Digits.{glyph, digits}
-use Rattle.tables.specs.Tables.{Value, whole, real}
+use Rattle.real.specs.Paper.{Value, whole, real}
 
 -- "in decimal": the digits of n, none of them a leading zero, at most k of them
 unfoldable pub decimalBy : ℕ → ℕ → List ℕ

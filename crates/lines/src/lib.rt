@@ -1,9 +1,8 @@
 // The lines that the solve program prints, written byte by byte into a lent buffer. Each function answers the place after what it wrote.
-ghost use mathlib.Core.Path.{_≡_};
 ghost use mathlib.Core.List.{[], _∷_};
 ghost use Prim.Native.Nat.{_+_, _*_, _≤_};
 ghost use lib.ListN.{length};
-ghost use Rattle.tables.specs.Tables.{whole, real};
+ghost use Rattle.real.specs.Paper.{whole, real};
 ghost use Rattle.lines.specs.Lines.{Wrote, decimalOf, realOf, valueOf, okOf, busOf, busesOf, headOf, refusedOf};
 
 fn put(src: &[u8], at: usize, out: &mut [u8]) -> usize
@@ -52,7 +51,7 @@ fn put_gap(x: f64, at: usize, out: &mut [u8]) -> usize
     requires { ⌜ at + 17 ≤ length (now out) ⌝ }
     ensures { λ r. ⌜ Wrote (now (out .entry)) at (valueOf (real x)) r (now (out .exit)) × (r ≤ at + 17) ⌝ }
 {
-    let k = put_byte(32, at, out);
+    let k = put_byte(b' ', at, out);
     put_real(x, k, out)
 }
 
@@ -61,7 +60,7 @@ fn put_count(n: usize, at: usize, out: &mut [u8]) -> usize
     requires { ⌜ at + 21 ≤ length (now out) ⌝ }
     ensures { λ r. ⌜ Wrote (now (out .entry)) at (valueOf (whole n)) r (now (out .exit)) × (r ≤ at + 21) ⌝ }
 {
-    let k = put_byte(32, at, out);
+    let k = put_byte(b' ', at, out);
     put_decimal(n, k, out)
 }
 
@@ -73,7 +72,7 @@ pub fn put_ok(iterations: usize, residual: f64, out: &mut [u8]) -> usize
     let a = put(b"ok", 0, out);
     let b = put_count(iterations, a, out);
     let c = put_gap(residual, b, out);
-    put_byte(10, c, out)
+    put_byte(b'\n', c, out)
 }
 
 // The line of a bus.
@@ -91,13 +90,13 @@ fn put_bus(
     ensures { λ r. ⌜ Wrote (now (out .entry)) at (busOf bus kind vm va p q) r (now (out .exit)) × (r ≤ at + 91) ⌝ }
 {
     let a = put_decimal(bus, at, out);
-    let b = put_byte(32, a, out);
+    let b = put_byte(b' ', a, out);
     let c = put_byte(kind, b, out);
     let d = put_gap(vm, c, out);
     let e = put_gap(va, d, out);
     let f = put_gap(p, e, out);
     let g = put_gap(q, f, out);
-    put_byte(10, g, out)
+    put_byte(b'\n', g, out)
 }
 
 // The lines of the first n buses.
@@ -136,7 +135,7 @@ pub fn put_bare(number: usize, out: &mut [u8]) -> usize
     ensures { λ r. ⌜ Wrote (now (out .entry)) 0 (refusedOf number []) r (now (out .exit)) × (r ≤ 29) ⌝ }
 {
     let a = put_head(number, out);
-    put_byte(10, a, out)
+    put_byte(b'\n', a, out)
 }
 
 // A refusal with a place of the text.
@@ -146,7 +145,7 @@ pub fn put_placed(number: usize, place: usize, out: &mut [u8]) -> usize
 {
     let a = put_head(number, out);
     let b = put_count(place, a, out);
-    put_byte(10, b, out)
+    put_byte(b'\n', b, out)
 }
 
 // A refusal with a mismatch and a count of starts.
@@ -157,5 +156,5 @@ pub fn put_spent(number: usize, mismatch: f64, starts: usize, out: &mut [u8]) ->
     let a = put_head(number, out);
     let b = put_gap(mismatch, a, out);
     let c = put_count(starts, b, out);
-    put_byte(10, c, out)
+    put_byte(b'\n', c, out)
 }

@@ -59,7 +59,7 @@ sidesTo (suc k) r w = set (sidesTo k r w) (4096 + k) (getD r k nan)
 
 -- the Jacobian's entries added to a zero matrix, and the linear solve
 unfoldable pub directionOf : Ybus → AcPfLayout → List Float → Measured → List Float → Outcome
-directionOf y l va m w = solution (l .dim) (sidesTo (l .dim) (m .r) (jacobianOf (l .n) y va (m .phasors) l (cleared (l .dim) w)))
+directionOf y l va m w = solution (l .dim) (sidesTo (l .dim) (m .r) (jacobianOf y va (m .phasors) l (cleared (l .dim) w)))
 
 -- ---- the length. `at` measures a point
 

@@ -75,13 +75,13 @@ fn take_step(layout: AcPfLayout, p: Point, w: &[f64], alpha: f64) -> Point
 fn unfit_at(m: f64, a: f64) -> bool
     ensures { λ r. ⌜ r ≡ unfitAt m a ⌝ }
 {
-    if m != m {
+    if real::is_nan(m) {
         return true;
     }
     if m <= 0.0 {
         return true;
     }
-    a != a
+    real::is_nan(a)
 }
 
 fn unfit(n: usize, p: Point) -> bool

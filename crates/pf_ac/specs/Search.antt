@@ -49,11 +49,11 @@ pub data Searched : Type 0 where
 abbrev pub solved : Settled → AcPf
 solved s = Solved (s .iterations) (s .residual)
 
--- "The first below 1e-8 ends the search"
+-- what the result kept makes of the search
 abbrev pub judgedOf : Settled → ℕ → AcPf
 judgedOf s starts = cond (lt (s .residual) tolerance) (solved s) (NotConverged (s .residual) starts)
 
--- what a start's result d makes of the best so far: the end, or `rest` goes on with the one kept
+-- "The first below 1e-8 ends the search": what a start's result d makes of the best so far; else `rest` goes on with the one kept
 unfoldable pub tryOf : Bool → Settled → Done → (Settled → List Float → Searched) → Searched
 tryOf first best d rest =
     let s = settledOf d in

@@ -96,10 +96,10 @@ fn better(first: bool, best: f64, res: f64) -> bool
     if first {
         return true;
     }
-    if res != res {
+    if real::is_nan(res) {
         return false;
     }
-    if best != best {
+    if real::is_nan(best) {
         return true;
     }
     res < best

@@ -15,9 +15,9 @@ use Rattle.injections.specs.Injections.{Ybus, Good, injectionsOf}
 use Rattle.layout.specs.declared.Point.{Point}
 use Rattle.newton.specs.declared.Ended.{Ended}
 use Rattle.newton.specs.Newton.{problem, Run, newtonOf, endedOf, spaceAfter}
-use Rattle.qlim.specs.declared.Track.{Track}
+use Rattle.moves.specs.declared.Track.{Track}
 use Rattle.qlim.specs.declared.Settled.{Settled}
-use Rattle.qlim.specs.Moves.{movesOf, anyMove, kindsAfter, trackAfter, pinned, lettersOf}
+use Rattle.moves.specs.Moves.{movesOf, anyMove, kindsAfter, trackAfter, pinned, lettersOf}
 
 -- what stays the same through the rounds: demands, scheduled generation, the limits and the held voltages of the n buses
 pub record Study : Type 0 where

@@ -3,30 +3,15 @@ use layout::AcPfLayout;
 use layout::BusKind;
 use layout::Limits;
 use layout::Point;
-use real::Q_TOL;
+use moves::Move;
+use moves::Track;
 use real::TOL;
-use real::V_BACK;
 ghost use mathlib.Core.Path.{_≡_};
 ghost use Prim.Native.Nat.{_≤_};
 ghost use lib.ListN.{length};
 ghost use Rattle.injections.specs.Injections.{ybus, Good, injectionsOf};
-ghost use Rattle.qlim.specs.Moves.{movePv, movePq, moveOf, isMove, kindAfter, schedAfter, convertedAfter, revertedAfter, pinOf, letterOf, movesOf, anyMove, kindsAfter, trackAfter, pinned, lettersOf, anyGenerator};
+ghost use Rattle.moves.specs.Moves.{movesOf};
 ghost use Rattle.qlim.specs.Rounds.{study, Ready, done, qlimOf};
-
-// What a bus does after a round.
-pub enum Move {
-    Keep,
-    AtMax,
-    AtMin,
-    Back,
-}
-
-// What a round changes beside the kinds. converted: 0 not converted, 1 fixed at qmax, 2 fixed at qmin.
-pub struct Track {
-    pub qsched: [f64; 32],
-    pub converted: [u8; 32],
-    pub reverted: [bool; 32],
-}
 
 // The last round's point, its kinds as letters (a field can't be an array of enums), iterations and residual.
 pub struct Settled {
@@ -34,256 +19,6 @@ pub struct Settled {
     pub letters: [u8; 32],
     pub iterations: usize,
     pub residual: f64,
-}
-
-// ---- one bus
-
-fn move_pv(q: f64, lo: f64, hi: f64) -> Move
-    ensures { λ r. ⌜ r ≡ movePv q lo hi ⌝ }
-{
-    if q > hi + Q_TOL {
-        return Move::AtMax;
-    }
-    if q < lo - Q_TOL {
-        return Move::AtMin;
-    }
-    Move::Keep
-}
-
-// The way back is open once: a bus that could hold its voltage within the limit is restored.
-fn move_pq(converted: u8, reverted: bool, v: f64, hold: f64) -> Move
-    ensures { λ r. ⌜ r ≡ movePq converted reverted v hold ⌝ }
-{
-    if reverted {
-        return Move::Keep;
-    }
-    if converted == 1 {
-        if v > hold + V_BACK {
-            return Move::Back;
-        }
-        return Move::Keep;
-    }
-    if converted == 2 {
-        if v < hold - V_BACK {
-            return Move::Back;
-        }
-        return Move::Keep;
-    }
-    Move::Keep
-}
-
-fn move_of(
-    k: BusKind,
-    has_gen: bool,
-    q: f64,
-    lo: f64,
-    hi: f64,
-    converted: u8,
-    reverted: bool,
-    v: f64,
-    hold: f64,
-) -> Move
-    ensures { λ r. ⌜ r ≡ moveOf k «has_gen» q lo hi converted reverted v hold ⌝ }
-{
-    if has_gen {
-        match k {
-            BusKind::Slack => Move::Keep,
-            BusKind::Pv => move_pv(q, lo, hi),
-            BusKind::Pq => move_pq(converted, reverted, v, hold),
-        }
-    } else {
-        Move::Keep
-    }
-}
-
-fn is_move(m: Move) -> bool
-    ensures { λ r. ⌜ r ≡ isMove m ⌝ }
-{
-    match m {
-        Move::Keep => false,
-        Move::AtMax => true,
-        Move::AtMin => true,
-        Move::Back => true,
-    }
-}
-
-fn kind_after(m: Move, k: BusKind) -> BusKind
-    ensures { λ r. ⌜ r ≡ kindAfter m k ⌝ }
-{
-    match m {
-        Move::Keep => k,
-        Move::AtMax => BusKind::Pq,
-        Move::AtMin => BusKind::Pq,
-        Move::Back => BusKind::Pv,
-    }
-}
-
-fn sched_after(m: Move, s: f64, lo: f64, hi: f64, qg: f64) -> f64
-    ensures { λ r. ⌜ r ≡ schedAfter m s lo hi qg ⌝ }
-{
-    match m {
-        Move::Keep => s,
-        Move::AtMax => hi,
-        Move::AtMin => lo,
-        Move::Back => qg,
-    }
-}
-
-fn converted_after(m: Move, c: u8) -> u8
-    ensures { λ r. ⌜ r ≡ convertedAfter m c ⌝ }
-{
-    match m {
-        Move::Keep => c,
-        Move::AtMax => 1,
-        Move::AtMin => 2,
-        Move::Back => 0,
-    }
-}
-
-fn reverted_after(m: Move, r: bool) -> bool
-    ensures { λ s. ⌜ s ≡ revertedAfter m r ⌝ }
-{
-    match m {
-        Move::Keep => r,
-        Move::AtMax => r,
-        Move::AtMin => r,
-        Move::Back => true,
-    }
-}
-
-fn pin_of(k: BusKind, v: f64, hold: f64) -> f64
-    ensures { λ r. ⌜ r ≡ pinOf k v hold ⌝ }
-{
-    match k {
-        BusKind::Slack => hold,
-        BusKind::Pv => hold,
-        BusKind::Pq => v,
-    }
-}
-
-fn letter_of(k: BusKind) -> u8
-    ensures { λ r. ⌜ r ≡ letterOf k ⌝ }
-{
-    match k {
-        BusKind::Slack => b'S',
-        BusKind::Pv => b'V',
-        BusKind::Pq => b'Q',
-    }
-}
-
-// ---- all buses
-
-fn moves(
-    n: usize,
-    kinds: [BusKind; 32],
-    limits: Limits,
-    t: Track,
-    qd: &[f64],
-    q_calc: [f64; 32],
-    vm: [f64; 32],
-    vm_hold: [f64; 32],
-) -> [Move; 32]
-    requires { ⌜ (n ≤ 32) × (n ≤ length (now qd)) ⌝ }
-    ensures { λ r. ⌜ r ≡ movesOf n kinds limits t (now (qd .entry)) «q_calc» vm «vm_hold» ⌝ }
-{
-    let mut ms = [Move::Keep; 32];
-    for b in 0..n {
-        let k = kinds[b];
-        let q = q_calc[b] + qd[b];
-        let m = move_of(
-            k,
-            limits.has_gen[b],
-            q,
-            limits.qmin[b],
-            limits.qmax[b],
-            t.converted[b],
-            t.reverted[b],
-            vm[b],
-            vm_hold[b],
-        );
-        ms[b] = m;
-    }
-    ms
-}
-
-fn any_move(n: usize, ms: [Move; 32]) -> bool
-    requires { ⌜ n ≤ 32 ⌝ }
-    ensures { λ r. ⌜ r ≡ anyMove n ms ⌝ }
-{
-    let mut any = false;
-    for b in 0..n {
-        let m = ms[b];
-        any = real::or(any, is_move(m));
-    }
-    any
-}
-
-fn kinds_after(n: usize, kinds: [BusKind; 32], ms: [Move; 32]) -> [BusKind; 32]
-    requires { ⌜ n ≤ 32 ⌝ }
-    ensures { λ r. ⌜ r ≡ kindsAfter n kinds ms ⌝ }
-{
-    let mut next = kinds;
-    for b in 0..n {
-        let m = ms[b];
-        let k = kinds[b];
-        let a = kind_after(m, k);
-        next[b] = a;
-    }
-    next
-}
-
-fn track_after(n: usize, t: Track, limits: Limits, qg: [f64; 32], ms: [Move; 32]) -> Track
-    requires { ⌜ n ≤ 32 ⌝ }
-    ensures { λ r. ⌜ r ≡ trackAfter n t limits qg ms ⌝ }
-{
-    let mut next = t;
-    for b in 0..n {
-        let m = ms[b];
-        let s = sched_after(m, t.qsched[b], limits.qmin[b], limits.qmax[b], qg[b]);
-        next.qsched[b] = s;
-        let c = converted_after(m, t.converted[b]);
-        next.converted[b] = c;
-        let r = reverted_after(m, t.reverted[b]);
-        next.reverted[b] = r;
-    }
-    next
-}
-
-// Generator buses regulate to the held voltage.
-fn pin(n: usize, kinds: [BusKind; 32], vm_hold: [f64; 32], p: Point) -> Point
-    requires { ⌜ n ≤ 32 ⌝ }
-    ensures { λ r. ⌜ r ≡ pinned n kinds «vm_hold» p ⌝ }
-{
-    let mut t = p;
-    for b in 0..n {
-        let k = kinds[b];
-        let v = pin_of(k, p.vm[b], vm_hold[b]);
-        t.vm[b] = v;
-    }
-    t
-}
-
-fn letters(n: usize, kinds: [BusKind; 32]) -> [u8; 32]
-    requires { ⌜ n ≤ 32 ⌝ }
-    ensures { λ r. ⌜ r ≡ lettersOf n kinds ⌝ }
-{
-    let mut ls = [0u8; 32];
-    for b in 0..n {
-        let k = kinds[b];
-        ls[b] = letter_of(k);
-    }
-    ls
-}
-
-fn any_generator(n: usize, has_gen: [bool; 32]) -> bool
-    requires { ⌜ n ≤ 32 ⌝ }
-    ensures { λ r. ⌜ r ≡ anyGenerator n «has_gen» ⌝ }
-{
-    let mut any = false;
-    for b in 0..n {
-        any = real::or(any, has_gen[b]);
-    }
-    any
 }
 
 // The moves at Newton's end: all buses are tested against the one set of figures there.
@@ -305,7 +40,7 @@ fn switches(
 {
     // Only a bus with a generator moves; without one no power is asked for.
     let has_gen = limits.has_gen;
-    if !any_generator(n, has_gen) {
+    if !moves::any_generator(n, has_gen) {
         let still = [Move::Keep; 32];
         return still;
     }
@@ -314,10 +49,8 @@ fn switches(
     let found = injections::ac_injections(n, y_row, y_col, y_re, y_im, vm, va);
     let power = found.power;
     let q_calc = power.q;
-    moves(n, kinds, limits, t, qd, q_calc, vm, vm_hold)
+    moves::moves(n, kinds, limits, t, qd, q_calc, vm, vm_hold)
 }
-
-// ---- the rounds
 
 // The kinds that come in are those of default_kinds. Running out of rounds with a switch pending means that no typing settled: infinity.
 pub fn solve_qlim(
@@ -345,10 +78,10 @@ pub fn solve_qlim(
         converted: [0u8; 32],
         reverted: [false; 32],
     };
-    let mut p = pin(n, default, vm_hold, start);
+    let mut p = moves::pin(n, default, vm_hold, start);
     let mut last = Settled {
         point: p,
-        letters: letters(n, default),
+        letters: moves::letters(n, default),
         iterations: 0,
         residual: 1.0 / 0.0,
     };
@@ -357,7 +90,7 @@ pub fn solve_qlim(
         let qsched = t.qsched;
         let e = newton::newton(y_row, y_col, y_re, y_im, layout, pd, qd, pg, qsched, p, w);
         let point = e.point;
-        let ls = letters(n, kinds);
+        let ls = moves::letters(n, kinds);
         let s = Settled {
             point,
             letters: ls,
@@ -380,13 +113,13 @@ pub fn solve_qlim(
             point,
             vm_hold,
         );
-        if !any_move(n, ms) {
+        if !moves::any_move(n, ms) {
             return s;
         }
-        let next = kinds_after(n, kinds, ms);
+        let next = moves::kinds_after(n, kinds, ms);
         kinds = next;
-        t = track_after(n, t, limits, qg, ms);
-        p = pin(n, next, vm_hold, point);
+        t = moves::track_after(n, t, limits, qg, ms);
+        p = moves::pin(n, next, vm_hold, point);
         last = Settled {
             point,
             letters: ls,

@@ -1,3 +1,5 @@
+pub mod Tests
+pub mod Paper
 pub mod Literals
 pub mod Real
 pub mod Norm

@@ -1,11 +1,16 @@
 -- The doubles that 01 writes in decimal. Each stands by its bits, as the program's literals are read; proofs/Literals.antt shows that it is the
 -- double nearest to the decimal.
 use Prim.Native.Nat.{ℕ}
-use lib.Ieee.{Float, binary64, ofBits}
+use lib.IntN.{pos}
+use lib.Ieee.{Float, binary64, ofBits, ofInt}
 
 -- the double of a bit pattern
 abbrev pub lit : ℕ → Float
 lit b = ofBits binary64 b
+
+-- a whole number as a double, rounded once
+abbrev pub double : ℕ → Float
+double n = ofInt binary64 (pos n)
 
 abbrev pub nought : Float
 nought = lit 0

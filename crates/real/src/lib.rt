@@ -1,9 +1,10 @@
-// What the Rust takes from f64: is_nan, abs, max; and inf_norm. The literals that the crates above share.
+// What the Rust takes from f64: is_nan, is_finite, abs, max; and inf_norm. The literals and the small tests that the crates above share.
 ghost use mathlib.Core.Path.{_≡_};
 ghost use mathlib.Core.Bool.{_||_};
-ghost use Prim.Native.Nat.{_≤_};
+ghost use Prim.Native.Nat.{_≤_, min};
 ghost use lib.Ieee.{isNan};
 ghost use lib.Ieee.Scale.{finite};
+ghost use Rattle.real.specs.Tests.{both};
 ghost use Rattle.real.specs.Real.{absolute, maxOf};
 ghost use Rattle.real.specs.Norm.{normOf};
 
@@ -31,10 +32,23 @@ pub fn is_finite(x: f64) -> bool
     false
 }
 
+// Both tests are worked out, so a loop over them has one way through.
 pub fn or(a: bool, b: bool) -> bool
     ensures { λ r. ⌜ r ≡ (a || b) ⌝ }
 {
     if a { true } else { b }
+}
+
+pub fn and(a: bool, b: bool) -> bool
+    ensures { λ r. ⌜ r ≡ both a b ⌝ }
+{
+    if a { b } else { false }
+}
+
+pub fn least(a: usize, b: usize) -> usize
+    ensures { λ r. ⌜ (r ≡ min a b) × (r ≤ b) ⌝ }
+{
+    if a < b { a } else { b }
 }
 
 // The sign is cleared, that of -0.0 too.

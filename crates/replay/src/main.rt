@@ -1,7 +1,6 @@
 // Replays the list in the file `texts` (oracle/replay.py has the format): reports each text and compares every byte with the answer that the
 // list holds.
 ghost use mathlib.Core.Path.{_≡_};
-ghost use Prim.Native.Nat.{_≤_};
 ghost use lib.ListN.{length};
 ghost use Rattle.vectors.specs.Words.{Tells, Found};
 ghost use Rattle.replay.specs.Replay.{bytesOf, Answered};
@@ -52,8 +51,8 @@ fn next(
     if got < 4 {
         return 3;
     }
-    let n = vectors::pair(head, 0) as usize;
-    let m = vectors::pair(head, 2) as usize;
+    let n = vectors::pair(head, 0);
+    let m = vectors::pair(head, 2);
     if !vectors::read(fd, text, n) {
         return 3;
     }

@@ -6,11 +6,13 @@ use mathlib.Core.List.{List, [], _∷_, _++_}
 use lib.Dec.{leb}
 use lib.ListN.{length}
 use lib.Ieee.{Float, isNan, neg, ofInt, ofBits, toBits}
+use Rattle.real.specs.Tests.{both}
+use Rattle.real.specs.Literals.{double}
 use Rattle.case_text.proofs.Examples.{listing, listing-tables, listing-columns, listing-read}
-use Rattle.tables.specs.Tables.{Answer, ok, both, roomy, zeros}
+use Rattle.tables.specs.Tables.{ok, roomy, zeros}
 use Rattle.tables.proofs.Examples as Solved
 use Rattle.lines.specs.Lines.{decimalBy, realOf, okOf, busOf, busesOf}
-use Rattle.report.specs.Report.{Report, networkOf, blank, blanks, printedOf, answeredOf, readingOf, solvedOf, reportOf}
+use Rattle.report.specs.Report.{networkOf, blank, blanks, printedOf, answeredOf, readingOf, solvedOf, reportOf}
 
 -- `ok 0 0000000000000000`
 abbrev pub first-line : List ℕ
@@ -27,7 +29,7 @@ same-network : networkOf listing-tables (listing-columns blank) ≡ Solved.listi
 unfolding ofInt ofBits neg
 same-network = refl
 
-same-lines : printedOf 1 (ok 0 (Solved.whole 0)) (Solved.row blanks) ≡ first-line ++ second-line
+same-lines : printedOf 1 (ok 0 (double 0)) (Solved.row blanks) ≡ first-line ++ second-line
 unfolding okOf busesOf busOf decimalBy realOf isNan toBits ofInt ofBits
 same-lines = refl
 

@@ -2,20 +2,21 @@
 pub mod Laws
 use Prim.Native.Nat.{ℕ, _≤_}
 use mathlib.Core.Path.{_≡_}
-use mathlib.Core.List.{List, [], _++_, map}
+use mathlib.Core.List.{List, [], _++_}
 use lib.ListN.{length, take, replicate}
 use lib.Ieee.{Float}
+use Rattle.real.specs.Paper.{Paper, given, refused}
 use Rattle.real.specs.Literals.{nought}
 use Rattle.case_text.specs.declared.Tables.{Tables}
 use Rattle.case_text.specs.declared.Reading.{Reading}
-use Rattle.case_text.specs.declared.Start.{Start}
-use Rattle.case_text.specs.declared.Start.the-variants as Start
+use Rattle.trailer.specs.declared.Start.{Start}
+use Rattle.trailer.specs.declared.Start.the-variants as Start
 use Rattle.case_text.specs.Answer as Reader
 use Rattle.case_text.specs.Answer.{Columns, columns, readOf}
 use Rattle.pf_ac.specs.declared.AcStart.{AcStart}
 use Rattle.pf_ac.specs.declared.AcStart.the-variants as AcStart
 use Rattle.pf_ac.specs.Network.{Network, network}
-use Rattle.tables.specs.Tables.{Paper, ok, refused, whole, Outs, outs, Answer, solveOf}
+use Rattle.tables.specs.Tables.{Outs, outs, Answer, solveOf}
 use Rattle.lines.specs.Lines.{okOf, busesOf, refusedOf, Wrote}
 
 -- ---- from the reader to the solve
@@ -62,8 +63,8 @@ pub record Report : Type 0 where
   pub space : List Float
 
 -- `ok` and a line per bus, or a refusal
-abbrev pub printedOf : ℕ → Paper → Outs → List ℕ
-printedOf n (ok iterations residual) o = okOf iterations residual ++ busesOf n (o .vm) (o .va) (o .p) (o .q) (o .kinds)
+abbrev pub printedOf : ℕ → Paper (ℕ × Float) → Outs → List ℕ
+printedOf n (given found) o = okOf (found .0) (found .1) ++ busesOf n (o .vm) (o .va) (o .p) (o .q) (o .kinds)
 printedOf n (refused number values) o = refusedOf number values
 
 abbrev pub answeredOf : ℕ → Answer → Report
@@ -74,17 +75,17 @@ unfoldable pub solvedOf : Tables → Columns → List Float → Report
 solvedOf c read w = answeredOf (c .buses) (solveOf (networkOf c read) blanks w)
 
 -- of a text that the reader refuses
-abbrev pub refusalBy : Reader.Paper → List ℕ
-refusalBy (Reader.accepted c) = refusedOf 9 []
-refusalBy (Reader.refused number places) = refusedOf number (map whole places)
+abbrev pub refusalBy : Paper Tables → List ℕ
+refusalBy (given c) = refusedOf 9 []
+refusalBy (refused number values) = refusedOf number values
 
 abbrev pub refusalOf : Reading → List ℕ
 refusalOf r = refusalBy (Reader.paperOf r)
 
 -- a reader's refusal leaves the workspace untouched
 abbrev pub readingOf : Reader.Outcome → List Float → Report
-readingOf (Reader.outcome (Reader.accepted c) read) w = solvedOf c read w
-readingOf (Reader.outcome (Reader.refused number places) read) w = record { bytes = refusedOf number (map whole places); space = w }
+readingOf (Reader.outcome (given c) read) w = solvedOf c read w
+readingOf (Reader.outcome (refused number values) read) w = record { bytes = refusedOf number values; space = w }
 
 unfoldable pub reportOf : List ℕ → List Float → Report
 reportOf s w = readingOf (readOf s blank) w

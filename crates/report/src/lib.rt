@@ -1,11 +1,10 @@
 // The report: from the bytes of a case text to the bytes that the solve program prints.
 use case_text::Reading;
-use case_text::Start;
 use case_text::Tables;
 use pf_ac::AcStart;
 use tables::Outcome;
+use trailer::Start;
 ghost use mathlib.Core.Path.{_≡_};
-ghost use mathlib.Core.List.{map};
 ghost use Prim.Native.Nat.{_≤_};
 ghost use lib.ListN.{length};
 ghost use Rattle.io.specs.Counts.{Counts};

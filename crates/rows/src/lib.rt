@@ -37,11 +37,11 @@ fn letter(t: Section) -> u8
     ensures { λ r. ⌜ r ≡ letterOf t ⌝ }
 {
     match t {
-        Section::B => 66,
-        Section::R => 82,
-        Section::G => 71,
-        Section::L => 76,
-        Section::Y => 89,
+        Section::B => b'B',
+        Section::R => b'R',
+        Section::G => b'G',
+        Section::L => b'L',
+        Section::Y => b'Y',
     }
 }
 
@@ -115,10 +115,10 @@ fn good(s: &[u8], a: usize, e: usize, w: Want) -> bool
         Want::Stored => fields::is_real(fields::real_or_nan(s, a, e)),
         Want::Bus => fields::is_number(fields::read_bus(s, a, e)),
         Want::Kind => {
-            if fields::is_byte(s, a, e, 86) {
+            if fields::is_byte(s, a, e, b'V') {
                 return true;
             }
-            fields::is_byte(s, a, e, 81)
+            fields::is_byte(s, a, e, b'Q')
         }
     }
 }
@@ -131,7 +131,7 @@ fn spaced(s: &[u8], a: usize, e: usize, n: usize) -> bool
     let mut i = a;
     let mut k: usize = 0;
     loop {
-        let q = fields::find(s, i, e, 32);
+        let q = fields::find(s, i, e, b' ');
         if q == i {
             return false;
         }
@@ -148,7 +148,7 @@ fn form(s: &[u8], a: usize, e: usize, t: Section) -> bool
     requires { ⌜ (a ≤ e) × (e ≤ length (now s)) ⌝ }
     ensures { λ r. ⌜ r ≡ formOf t (pieces 32 (slice a e (now (s .entry)))) ⌝ }
 {
-    let p = fields::find(s, a, e, 32);
+    let p = fields::find(s, a, e, b' ');
     if p == e {
         return false;
     }
@@ -166,7 +166,7 @@ fn check_fields(s: &[u8], a: usize, e: usize, t: Section) -> Check
     let mut i = a;
     let mut j: usize = 0;
     loop {
-        let q = fields::find(s, i, e, 32);
+        let q = fields::find(s, i, e, b' ');
         if good(s, i, q, wanted(t, j)) {
             if q == e {
                 return Check::Good(1);
@@ -201,7 +201,7 @@ pub fn check_section(s: &[u8], a: usize, e: usize, t: Section) -> Check
         if size(t) <= r {
             return Check::Rows(i);
         }
-        let p = fields::find(s, i, e, 10);
+        let p = fields::find(s, i, e, b'\n');
         if p == e {
             return Check::Form(i);
         }

@@ -1,11 +1,12 @@
 -- 01's listing, computed: one slack bus with the admittance 2 - 8j is solved at the first start. Assumes nothing.
-use Prim.Native.Nat.{ℕ}
 use mathlib.Core.Bool.{Bool, true, cond}
 use mathlib.Core.Path.{_≡_, ap}
 use mathlib.Core.List.{List, [], _∷_}
-use lib.IntN.{pos}
 use lib.ListN.{set}
-use lib.Ieee.{Float, nan, binary64, ofInt, ofBits, add, sub, mul, div, neg, lt, le, isNan}
+use lib.Ieee.{Float, nan, ofInt, ofBits, add, sub, mul, div, neg, lt, le, isNan}
+use Rattle.real.specs.Literals.{double}
+use Rattle.real.specs.Tests.{both}
+use Rattle.real.specs.Paper.{refused}
 use Rattle.real.specs.Norm.{normOf}
 use Rattle.real.specs.Real.{absolute}
 use Rattle.trig.specs.Sine.{sinCosOf}
@@ -16,29 +17,25 @@ use Rattle.layout.specs.Limits.{sumAt, hasGen, limitsOf}
 use Rattle.layout.specs.Table.{stores}
 use Rattle.injections.specs.Injections.{voltagesOf, currentsTo, phasorsOf, injectedOf}
 use Rattle.newton.specs.Newton.{measuredOf, stepsFrom, newtonOf}
-use Rattle.qlim.specs.Moves.{moveOf, movesOf, anyMove, pinned, lettersOf}
+use Rattle.moves.specs.Moves.{moveOf, movesOf, anyMove, pinned, lettersOf}
 use Rattle.qlim.specs.Rounds.{roundOf, roundsFrom, qlimOf}
 use Rattle.starts.specs.References.{angleOf, referencesOf}
 use Rattle.starts.specs.Starts.{flatOf}
 use Rattle.pf_ac.specs.Network.{Network, network, acPfOf}
 use Rattle.pf_ac.specs.Search.{startOf, betterOf, tryOf, searchFrom, searchOf}
-use Rattle.tables.specs.Tables.{Outs, outs, answer, ok, refused, both, allBelow, counted, roomy, numbered, writtenOf, zeros, ranOf, solveOf}
+use Rattle.tables.specs.Tables.{Outs, outs, answer, ok, allBelow, counted, roomy, numbered, writtenOf, zeros, ranOf, solveOf}
 use Rattle.pf_ac.specs.declared.AcStart.the-variants.{Flat}
-
--- a whole number as a double
-abbrev pub whole : ℕ → Float
-whole n = ofInt binary64 (pos n)
 
 abbrev pub listing : Network
 listing =
-    network (81 ∷ []) (whole 1 ∷ []) (whole 0 ∷ []) (whole 0 ∷ []) (whole 0 ∷ []) (whole 0 ∷ []) (nan ∷ []) (nan ∷ []) (0 ∷ []) (whole 0 ∷ []) [] [] [] [] []
-    (0 ∷ []) (0 ∷ []) (whole 2 ∷ []) (neg (whole 8) ∷ []) Flat
+    network (81 ∷ []) (double 1 ∷ []) (double 0 ∷ []) (double 0 ∷ []) (double 0 ∷ []) (double 0 ∷ []) (nan ∷ []) (nan ∷ []) (0 ∷ []) (double 0 ∷ []) [] [] [] [] []
+    (0 ∷ []) (0 ∷ []) (double 2 ∷ []) (neg (double 8) ∷ []) Flat
 
 -- the columns with the bus's voltage, powers and letter (83 is S) in their first places
 abbrev pub row : Outs → Outs
-row o = outs (set (o .vm) 0 (whole 1)) (set (o .va) 0 (whole 0)) (set (o .p) 0 (whole 2)) (set (o .q) 0 (whole 8)) (set (o .kinds) 0 83)
+row o = outs (set (o .vm) 0 (double 1)) (set (o .va) 0 (double 0)) (set (o .p) 0 (double 2)) (set (o .q) 0 (double 8)) (set (o .kinds) 0 83)
 
 -- whatever stood in the columns and in the workspace
-pub listing-solved : (o : Outs) (w : List Float) → roomy listing o w ≡ true → solveOf listing o w ≡ answer (ok 0 (whole 0)) (row o) (zeros w)
+pub listing-solved : (o : Outs) (w : List Float) → roomy listing o w ≡ true → solveOf listing o w ≡ answer (ok 0 (double 0)) (row o) (zeros w)
 unfolding normOf absolute sinCosOf groupOf lowest tally each labelsOf listed kindsOf angleCount magnitudeCount layoutOf sumAt hasGen limitsOf stores voltagesOf currentsTo phasorsOf injectedOf measuredOf stepsFrom newtonOf moveOf movesOf anyMove pinned lettersOf roundOf roundsFrom qlimOf angleOf referencesOf flatOf acPfOf startOf betterOf tryOf searchFrom searchOf both allBelow counted numbered writtenOf ranOf solveOf ofInt ofBits add sub mul div neg lt le isNan
 listing-solved o w h = ap (λ (r : Bool). cond r (ranOf listing o w (acPfOf listing w)) (answer (refused 9 []) o w)) h

@@ -2,11 +2,13 @@
 pub mod Laws
 pub mod Withheld
 use Prim.Native.Nat.{ℕ, zero, suc}
-use mathlib.Core.Bool.{Bool, true, false, cond}
+use mathlib.Core.Bool.{Bool, true, cond}
 use mathlib.Core.List.{List, [], _∷_}
 use lib.Dec.{leb, ltb, eqb}
 use lib.ListN.{length, getD, replicate}
 use lib.Ieee.{Float, nan}
+use Rattle.real.specs.Tests.{both}
+use Rattle.real.specs.Paper.{Paper, given, refused, whole, real}
 use Rattle.real.specs.Literals.{nought}
 use Rattle.layout.specs.Table.{stores}
 use Rattle.injections.specs.Injections.{Ybus, injectionsOf}
@@ -17,18 +19,14 @@ use Rattle.pf_ac.specs.Network.{Network, buses, tripletsOf, acPfOf}
 use Rattle.tables.specs.declared.Outcome.{Outcome}
 use Rattle.tables.specs.declared.Outcome.the-variants.{Solved, Counts, Room, Bus, NotConverged}
 
--- ---- the answer on paper: `ok` with iterations and residual, or a refusal's number with the values beside it
+-- ---- the answer on paper
 
-pub data Value : Type 0 where
-  whole : ℕ → Value
-  real : Float → Value
-
-pub data Paper : Type 0 where
-  ok : ℕ → Float → Paper
-  refused : ℕ → List Value → Paper
+-- solved: iterations and residual
+abbrev pub ok : ℕ → Float → Paper (ℕ × Float)
+ok iterations residual = given (iterations, residual)
 
 -- 01's number and values for each case
-abbrev pub paperOf : Outcome → Paper
+abbrev pub paperOf : Outcome → Paper (ℕ × Float)
 paperOf (Solved iterations residual) = ok iterations residual
 paperOf Counts = refused 7 []
 paperOf Room = refused 9 []
@@ -47,11 +45,6 @@ abbrev pub outs : List Float → List Float → List Float → List Float → Li
 outs vm va p q kinds = record { vm = vm; va = va; p = p; q = q; kinds = kinds }
 
 -- ---- the checks
-
--- both hold
-unfoldable pub both : Bool → Bool → Bool
-both true b = b
-both false b = false
 
 abbrev pub same3 : ℕ → ℕ → ℕ → ℕ → Bool
 same3 n a b c = both (eqb a n) (both (eqb b n) (eqb c n))
@@ -113,11 +106,11 @@ zeros w = replicate (length w) nought
 -- ---- the call
 
 pub record Answer : Type 0 where
-  pub paper : Paper
+  pub paper : Paper (ℕ × Float)
   pub columns : Outs
   pub space : List Float
 
-abbrev pub answer : Paper → Outs → List Float → Answer
+abbrev pub answer : Paper (ℕ × Float) → Outs → List Float → Answer
 answer r o w = record { paper = r; columns = o; space = w }
 
 -- after a run that reached the first start: solved, or refused with 10, which leaves the answer columns untouched

@@ -9,7 +9,7 @@ ghost use lib.Ieee.{nan};
 ghost use Rattle.layout.specs.Table.{stores};
 ghost use Rattle.injections.specs.Injections.{ybus, Good};
 ghost use Rattle.pf_ac.specs.Network.{network};
-ghost use Rattle.tables.specs.Tables.{both, same3, same7, allBelow, countedBy, roomyBy, numberedBy, outs, writtenOf, zeros, paperOf, answer, solveOf};
+ghost use Rattle.tables.specs.Tables.{same3, same7, allBelow, countedBy, roomyBy, numberedBy, outs, writtenOf, zeros, paperOf, answer, solveOf};
 
 // What the call answers. Each refusal is one of the paper's: Counts is 7, Room 9, Bus 8, NotConverged 10.
 pub enum Outcome {
@@ -22,22 +22,16 @@ pub enum Outcome {
 
 // ---- the checks
 
-fn and(a: bool, b: bool) -> bool
-    ensures { λ r. ⌜ r ≡ both a b ⌝ }
-{
-    if a { b } else { false }
-}
-
 fn equal3(n: usize, a: usize, b: usize, c: usize) -> bool
     ensures { λ r. ⌜ r ≡ same3 n a b c ⌝ }
 {
-    and(a == n, and(b == n, c == n))
+    real::and(a == n, real::and(b == n, c == n))
 }
 
 fn equal7(n: usize, a: usize, b: usize, c: usize, d: usize, e: usize, f: usize, g: usize) -> bool
     ensures { λ r. ⌜ r ≡ same7 n a b c d e f g ⌝ }
 {
-    and(equal3(n, a, b, c), and(d == n, equal3(n, e, f, g)))
+    real::and(equal3(n, a, b, c), real::and(d == n, equal3(n, e, f, g)))
 }
 
 // Whether each number of the column is below n.
@@ -46,7 +40,7 @@ fn below(n: usize, l: &[usize]) -> bool
 {
     let mut ok = true;
     for i in 0..l.len() {
-        ok = and(ok, l[i] < n);
+        ok = real::and(ok, l[i] < n);
     }
     ok
 }
@@ -75,26 +69,26 @@ fn counted(
 ) -> bool
     ensures { λ r. ⌜ r ≡ countedBy kind «vm_set» pd qd pg qg «vm_case» «va_case» slacks «va_slacks» «gen_bus» qmin qmax «br_from» «br_to» «y_row» «y_col» «y_re» «y_im» ⌝ }
 {
-    let a = and(
+    let a = real::and(
         kind <= 32,
         equal7(kind, vm_set, pd, qd, pg, qg, vm_case, va_case),
     );
-    let b = and(slacks <= 32, va_slacks == slacks);
-    let c = and(gen_bus <= 32, and(qmin == gen_bus, qmax == gen_bus));
-    let d = and(br_from <= 64, br_to == br_from);
-    let e = and(y_row <= 256, equal3(y_row, y_col, y_re, y_im));
-    and(a, and(b, and(c, and(d, e))))
+    let b = real::and(slacks <= 32, va_slacks == slacks);
+    let c = real::and(gen_bus <= 32, real::and(qmin == gen_bus, qmax == gen_bus));
+    let d = real::and(br_from <= 64, br_to == br_from);
+    let e = real::and(y_row <= 256, equal3(y_row, y_col, y_re, y_im));
+    real::and(a, real::and(b, real::and(c, real::and(d, e))))
 }
 
 // Refusal 9, of the lengths of the answer columns and the workspace.
 fn roomy(n: usize, vm: usize, va: usize, p: usize, q: usize, kinds: usize, w: usize) -> bool
     ensures { λ r. ⌜ r ≡ roomyBy n vm va p q kinds w ⌝ }
 {
-    and(
+    real::and(
         n <= vm,
-        and(
+        real::and(
             n <= va,
-            and(n <= p, and(n <= q, and(n <= kinds, 6144 <= w))),
+            real::and(n <= p, real::and(n <= q, real::and(n <= kinds, 6144 <= w))),
         ),
     )
 }
@@ -111,13 +105,13 @@ fn numbered(
 ) -> bool
     ensures { λ r. ⌜ r ≡ numberedBy n (now (slacks .entry)) (now («gen_bus» .entry)) (now («br_from» .entry)) (now («br_to» .entry)) (now («y_row» .entry)) (now («y_col» .entry)) ⌝ }
 {
-    and(
+    real::and(
         below(n, slacks),
-        and(
+        real::and(
             below(n, gen_bus),
-            and(
+            real::and(
                 below(n, br_from),
-                and(below(n, br_to), and(below(n, y_row), below(n, y_col))),
+                real::and(below(n, br_to), real::and(below(n, y_row), below(n, y_col))),
             ),
         ),
     )

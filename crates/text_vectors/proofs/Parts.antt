@@ -5,13 +5,15 @@ use mathlib.Core.List.{List, _++_}
 use Prim.Native.Nat.{ℕ}
 use lib.ListN.{length, take, replicate}
 use lib.Ieee.{Float}
+use Rattle.real.specs.Paper.{Paper}
 use Rattle.real.specs.Literals.{lit}
 use Rattle.vectors.specs.Words.{Tells}
-use Rattle.case_text.specs.Answer.{Paper, columns, outcome, readOf}
+use Rattle.case_text.specs.declared.Tables.{Tables}
+use Rattle.case_text.specs.Answer.{columns, outcome, readOf}
 use Rattle.text_vectors.specs.Told.{paperTold, numbersTold, realsTold, outcomeTold, widthTold, Agrees}
 use Rattle.text_vectors.proofs.Telling.{both, front}
 
-module _ {p p′ : Paper} {kind kind′ : List ℕ} {vmSet vmSet′ pd pd′ qd qd′ pg pg′ qg qg′ vmCase vmCase′ vaCase vaCase′ : List Float} {slacks slacks′ : List ℕ} {vaSlacks vaSlacks′ : List Float} {genBus genBus′ : List ℕ} {qmin qmin′ qmax qmax′ : List Float} {brFrom brFrom′ brTo brTo′ yRow yRow′ yCol yCol′ : List ℕ} {yRe yRe′ yIm yIm′ : List Float} where
+module _ {p p′ : Paper Tables} {kind kind′ : List ℕ} {vmSet vmSet′ pd pd′ qd qd′ pg pg′ qg qg′ vmCase vmCase′ vaCase vaCase′ : List Float} {slacks slacks′ : List ℕ} {vaSlacks vaSlacks′ : List Float} {genBus genBus′ : List ℕ} {qmin qmin′ qmax qmax′ : List Float} {brFrom brFrom′ brTo brTo′ yRow yRow′ yCol yCol′ : List ℕ} {yRe yRe′ yIm yIm′ : List Float} where
   pub together : ((((((((((((((((((((p ≡ p′) × (kind ≡ kind′)) × (vmSet ≡ vmSet′)) × (pd ≡ pd′)) × (qd ≡ qd′)) × (pg ≡ pg′)) × (qg ≡ qg′)) × (vmCase ≡ vmCase′)) × (vaCase ≡ vaCase′)) × (slacks ≡ slacks′)) × (vaSlacks ≡ vaSlacks′)) × (genBus ≡ genBus′)) × (qmin ≡ qmin′)) × (qmax ≡ qmax′)) × (brFrom ≡ brFrom′)) × (brTo ≡ brTo′)) × (yRow ≡ yRow′)) × (yCol ≡ yCol′)) × (yRe ≡ yRe′)) × (yIm ≡ yIm′)) → outcome p (columns kind vmSet pd qd pg qg vmCase vaCase slacks vaSlacks genBus qmin qmax brFrom brTo yRow yCol yRe yIm) ≡ outcome p′ (columns kind′ vmSet′ pd′ qd′ pg′ qg′ vmCase′ vaCase′ slacks′ vaSlacks′ genBus′ qmin′ qmax′ brFrom′ brTo′ yRow′ yCol′ yRe′ yIm′)
   together h = rw (h .0 .0 .0 .0 .0 .0 .0 .0 .0 .0 .0 .0 .0 .0 .0 .0 .0 .0 .0, h .0 .0 .0 .0 .0 .0 .0 .0 .0 .0 .0 .0 .0 .0 .0 .0 .0 .0 .1, h .0 .0 .0 .0 .0 .0 .0 .0 .0 .0 .0 .0 .0 .0 .0 .0 .0 .1, h .0 .0 .0 .0 .0 .0 .0 .0 .0 .0 .0 .0 .0 .0 .0 .0 .1, h .0 .0 .0 .0 .0 .0 .0 .0 .0 .0 .0 .0 .0 .0 .0 .1, h .0 .0 .0 .0 .0 .0 .0 .0 .0 .0 .0 .0 .0 .0 .1, h .0 .0 .0 .0 .0 .0 .0 .0 .0 .0 .0 .0 .0 .1, h .0 .0 .0 .0 .0 .0 .0 .0 .0 .0 .0 .0 .1, h .0 .0 .0 .0 .0 .0 .0 .0 .0 .0 .0 .1, h .0 .0 .0 .0 .0 .0 .0 .0 .0 .0 .1, h .0 .0 .0 .0 .0 .0 .0 .0 .0 .1, h .0 .0 .0 .0 .0 .0 .0 .0 .1, h .0 .0 .0 .0 .0 .0 .0 .1, h .0 .0 .0 .0 .0 .0 .1, h .0 .0 .0 .0 .0 .1, h .0 .0 .0 .0 .1, h .0 .0 .0 .1, h .0 .0 .1, h .0 .1, h .1)
 
@@ -19,7 +21,7 @@ module _ {p p′ : Paper} {kind kind′ : List ℕ} {vmSet vmSet′ pd pd′ qd 
   apart e = (((((((((((((((((((cc, cc), cc), cc), cc), cc), cc), cc), cc), cc), cc), cc), cc), cc), cc), cc), cc), cc), cc), cc)
 
 -- a reading into the first m places of columns, the answer and those places of each column tested
-module _ (text s : List ℕ) (m : ℕ) (k kr : List ℕ) (x xr : List Float) {p : Paper} {kind : List ℕ} {vmSet pd qd pg qg vmCase vaCase : List Float} {slacks : List ℕ} {vaSlacks : List Float} {genBus : List ℕ} {qmin qmax : List Float} {brFrom brTo yRow yCol : List ℕ} {yRe yIm : List Float} {a a0 a1 a2 a3 a4 a5 a6 a7 a8 a9 a10 a11 a12 a13 a14 a15 a16 a17 a18 : Bool} where
+module _ (text s : List ℕ) (m : ℕ) (k kr : List ℕ) (x xr : List Float) {p : Paper Tables} {kind : List ℕ} {vmSet pd qd pg qg vmCase vaCase : List Float} {slacks : List ℕ} {vaSlacks : List Float} {genBus : List ℕ} {qmin qmax : List Float} {brFrom brTo yRow yCol : List ℕ} {yRe yIm : List Float} {a a0 a1 a2 a3 a4 a5 a6 a7 a8 a9 a10 a11 a12 a13 a14 a15 a16 a17 a18 : Bool} where
   pub compared : m ≡ length k → m ≡ length x → outcome p (columns kind vmSet pd qd pg qg vmCase vaCase slacks vaSlacks genBus qmin qmax brFrom brTo yRow yCol yRe yIm) ≡ readOf text (columns k x x x x x x x k x k x x k k k k x x) → Tells a (p ≡ paperTold s)
       → length kind ≡ length k → Tells a0 (take m (kind ++ kr) ≡ numbersTold s 0 (take m (kind ++ kr)))
       → length vmSet ≡ length x → Tells a1 (take m (vmSet ++ xr) ≡ realsTold s 1 (take m (vmSet ++ xr)))

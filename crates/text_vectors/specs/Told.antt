@@ -4,30 +4,31 @@ use mathlib.Core.Bool.{cond}
 use mathlib.Core.List.{List, [], _∷_}
 use Prim.Native.Nat.{ℕ, zero, suc, _+_, _*_, min}
 use lib.Dec.{eqb}
-use lib.ListN.{length, getD, replicate}
+use lib.ListN.{length, replicate}
 use lib.Ieee.{Float, binary64, ofBits}
+use Rattle.real.specs.Paper.{Paper, given, refused, whole, placeIn}
 use Rattle.real.specs.Literals.{lit}
 use Rattle.vectors.specs.Words.{pairOf, wordOf}
-use Rattle.case_text.specs.Trailer.{modeOf}
-use Rattle.case_text.specs.Answer.{Paper, accepted, refused, Columns, columns, Outcome, outcome, readOf}
+use Rattle.trailer.specs.Trailer.{modeOf}
+use Rattle.case_text.specs.Answer.{Columns, columns, Outcome, outcome, readOf}
 use Rattle.case_text.specs.declared.Tables.{Tables}
 
 -- an answer's number, 0 of a good one, and its place, 0 where it has none
-abbrev pub numberIn : Paper → ℕ
-numberIn (accepted c) = 0
+abbrev pub numberIn : Paper Tables → ℕ
+numberIn (given c) = 0
 numberIn (refused n values) = n
 
-abbrev pub placeIn : Paper → ℕ
-placeIn (accepted c) = 0
-placeIn (refused n values) = getD values 0 0
+abbrev pub placeOf : Paper Tables → ℕ
+placeOf (given c) = 0
+placeOf (refused n values) = placeIn values
 
 -- the refusal of a number; 9 has no place
-abbrev pub refusal : ℕ → ℕ → Paper
-refusal n at = cond (eqb n 9) (refused 9 []) (refused n (at ∷ []))
+abbrev pub refusal : ℕ → ℕ → Paper Tables
+refusal n at = cond (eqb n 9) (refused 9 []) (refused n (whole at ∷ []))
 
 -- the answer of a number: 0 stands for a good one
-abbrev pub answer : ℕ → ℕ → Tables → Paper
-answer n at c = cond (eqb n 0) (accepted c) (refusal n at)
+abbrev pub answer : ℕ → ℕ → Tables → Paper Tables
+answer n at c = cond (eqb n 0) (given c) (refusal n at)
 
 -- a column's rows
 abbrev pub rowsTold : List ℕ → ℕ → ℕ
@@ -44,7 +45,7 @@ tablesTold s = record {
   triplets = rowsTold s 15;
 }
 
-abbrev pub paperTold : List ℕ → Paper
+abbrev pub paperTold : List ℕ → Paper Tables
 paperTold s = answer (pairOf 0 s) (pairOf 2 s) (tablesTold s)
 
 -- the word of place i of column j: the rows' stand one behind the other, and behind them that of every place past the rows

@@ -1,41 +1,23 @@
 // Runs read_case on the texts of its input, good and damaged, and compares the answer and every place of every column with what the input says
 // (oracle/text_vectors.py has the format). Before each reading a column holds 7 in every place, and it must still do so past the rows.
 ghost use mathlib.Core.Path.{_≡_};
-ghost use Prim.Native.Nat.{_+_, _*_, _≤_, _<_, min};
+ghost use Prim.Native.Nat.{_+_, _*_, _≤_, _<_};
 ghost use lib.ListN.{length, take, replicate};
 ghost use Rattle.vectors.specs.Words.{pairOf, Tells, Found};
-ghost use Rattle.case_text.specs.Trailer.{modeOf};
-ghost use Rattle.case_text.specs.Answer.{accepted, paperOf};
-ghost use Rattle.text_vectors.specs.Told.{numberIn, placeIn, refusal, rowsTold, paperTold, wordTold, numbersTold, realsTold, Agrees};
+ghost use Rattle.trailer.specs.Trailer.{modeOf};
+ghost use Rattle.real.specs.Paper.{given};
+ghost use Rattle.case_text.specs.Answer.{paperOf};
+ghost use Rattle.text_vectors.specs.Told.{numberIn, placeOf, refusal, rowsTold, paperTold, wordTold, numbersTold, realsTold, Agrees};
 use libc::STDIN_FILENO;
 use libc::STDOUT_FILENO;
 
 // The record is s throughout, and j counts the columns in read_case's order.
 
-fn pair(s: &[u8], at: usize) -> usize
-    requires { ⌜ at + 2 ≤ length (now s) ⌝ }
-    ensures { λ r. ⌜ (r ≡ pairOf at (now (s .entry))) × (r < 65536) ⌝ }
-{
-    vectors::pair(s, at) as usize
-}
-
-fn wide(x: u8) -> u64
-    ensures { λ r. ⌜ r ≡ x ⌝ }
-{
-    x as u64
-}
-
-fn least(a: usize, b: usize) -> usize
-    ensures { λ r. ⌜ (r ≡ min a b) × (r ≤ b) ⌝ }
-{
-    if a < b { a } else { b }
-}
-
 fn rows(s: &[u8], j: usize) -> usize
     requires { ⌜ (j < 19) × (600000 ≤ length (now s)) ⌝ }
     ensures { λ r. ⌜ (r ≡ rowsTold (now (s .entry)) j) × (r < 65536) ⌝ }
 {
-    pair(s, 10 + j * 4)
+    vectors::pair(s, 10 + j * 4)
 }
 
 // What the input says of place i of column j.
@@ -43,8 +25,8 @@ fn told(s: &[u8], j: usize, i: usize) -> u64
     requires { ⌜ (j < 19) × (600000 ≤ length (now s)) ⌝ }
     ensures { λ r. ⌜ r ≡ wordTold (now (s .entry)) j i ⌝ }
 {
-    let k = least(i, rows(s, j));
-    vectors::word(s, pair(s, 8 + j * 4) + k * 8)
+    let k = real::least(i, rows(s, j));
+    vectors::word(s, vectors::pair(s, 8 + j * 4) + k * 8)
 }
 
 // Whether each place of a column holds what the input says; one function for each type of element.
@@ -54,7 +36,7 @@ fn kinds(s: &[u8], j: usize, col: &[u8]) -> bool
 {
     let mut i = 0;
     while i < col.len() {
-        if wide(col[i]) != told(s, j, i) {
+        if vectors::wide(col[i]) != told(s, j, i) {
             return false;
         }
         i += 1;
@@ -108,7 +90,7 @@ fn number(r: case_text::Reading) -> usize
 
 // The refusal's place, and 0 where it has none.
 fn place(r: case_text::Reading) -> usize
-    ensures { λ n. ⌜ n ≡ placeIn (paperOf r) ⌝ }
+    ensures { λ n. ⌜ n ≡ placeOf (paperOf r) ⌝ }
 {
     match r {
         case_text::Reading::Good(_) => 0,
@@ -127,19 +109,19 @@ fn refused(s: &[u8], n: usize, at: usize) -> bool
     requires { ⌜ (0 < n) × (600000 ≤ length (now s)) ⌝ }
     ensures { λ r. ⌜ Tells r (refusal n at ≡ paperTold (now (s .entry))) ⌝ }
 {
-    if pair(s, 0) != n {
+    if vectors::pair(s, 0) != n {
         return false;
     }
     if n == 9 {
         return true;
     }
-    at == pair(s, 2)
+    at == vectors::pair(s, 2)
 }
 
-fn starts(m: case_text::Start, letter: usize) -> bool
+fn starts(m: trailer::Start, letter: usize) -> bool
     ensures { λ r. ⌜ Tells r (m ≡ modeOf letter) ⌝ }
 {
-    let case_text::Start::Flat = m else {
+    let trailer::Start::Flat = m else {
         return letter != 70;
     };
     letter == 70
@@ -148,11 +130,11 @@ fn starts(m: case_text::Start, letter: usize) -> bool
 // Whether the input says these tables: a table's rows are those of its first column.
 fn good(s: &[u8], c: case_text::Tables) -> bool
     requires { ⌜ 600000 ≤ length (now s) ⌝ }
-    ensures { λ r. ⌜ Tells r (accepted c ≡ paperTold (now (s .entry))) ⌝ }
+    ensures { λ r. ⌜ Tells r (given c ≡ paperTold (now (s .entry))) ⌝ }
 {
     let m = c.start;
-    (pair(s, 0) == 0)
-        & starts(m, pair(s, 4))
+    (vectors::pair(s, 0) == 0)
+        & starts(m, vectors::pair(s, 4))
         & (c.buses == rows(s, 0))
         & (c.slacks == rows(s, 8))
         & (c.generators == rows(s, 10))
@@ -175,7 +157,7 @@ fn agrees(text: &[u8], s: &[u8]) -> bool
     requires { ⌜ 600000 ≤ length (now s) ⌝ }
     ensures { λ r. ⌜ Tells r (Agrees (now (text .entry)) (now (s .entry))) ⌝ }
 {
-    let m = least(pair(s, 6), 258);
+    let m = real::least(vectors::pair(s, 6), 258);
     let mut kind = [7u8; 258];
     let mut vm_set = [7.0; 258];
     let mut pd = [7.0; 258];
@@ -247,11 +229,11 @@ fn next(head: &mut [u8], text: &mut [u8], s: &mut [u8]) -> u64
     if !vectors::read(STDIN_FILENO, head, 4) {
         return 2;
     }
-    let n = pair(head, 0);
+    let n = vectors::pair(head, 0);
     if !vectors::read(STDIN_FILENO, text, n) {
         return 2;
     }
-    if !vectors::read(STDIN_FILENO, s, pair(head, 2)) {
+    if !vectors::read(STDIN_FILENO, s, vectors::pair(head, 2)) {
         return 2;
     }
     if agrees(&text[..n], s) {
@@ -277,7 +259,7 @@ fn main() {
     let mut done = 0;
     let mut differing = 0;
     vectors::read(STDIN_FILENO, head, 2);
-    let count = pair(head, 0);
+    let count = vectors::pair(head, 0);
     while done < count {
         let found = next(head, text, s);
         if found == 2 {

@@ -1,4 +1,5 @@
 -- Words and doubles in a list of bytes, the highest byte first; and what the answer of a test says.
+pub mod Laws
 use mathlib.Core.Path.{_≡_}
 use mathlib.Core.Bool.{Bool, true}
 use Prim.Native.Nat.{ℕ, _+_, _*_, _≤_}

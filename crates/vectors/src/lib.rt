@@ -5,18 +5,19 @@ ghost use lib.ListN.{length};
 ghost use lib.Ieee.{binary64, ofBits};
 ghost use Rattle.vectors.specs.Words.{pairOf, wordOf, doubleAt, Tells};
 
-fn wide(x: u8) -> u64
+// A byte as a word.
+pub fn wide(x: u8) -> u64
     ensures { λ r. ⌜ (r ≡ x) × (r < 256) ⌝ }
 {
     x as u64
 }
 
 // Two bytes from a place on, the first the higher.
-pub fn pair(s: &[u8], at: usize) -> u64
+pub fn pair(s: &[u8], at: usize) -> usize
     requires { ⌜ at + 2 ≤ length (now s) ⌝ }
     ensures { λ r. ⌜ (r ≡ pairOf at (now (s .entry))) × (r < 65536) ⌝ }
 {
-    wide(s[at]) * 256 + wide(s[at + 1])
+    (wide(s[at]) * 256 + wide(s[at + 1])) as usize
 }
 
 // Eight bytes from a place on, the first the highest.
@@ -24,10 +25,10 @@ pub fn word(s: &[u8], at: usize) -> u64
     requires { ⌜ at + 8 ≤ length (now s) ⌝ }
     ensures { λ r. ⌜ r ≡ wordOf at (now (s .entry)) ⌝ }
 {
-    let a = pair(s, at);
-    let b = pair(s, at + 2);
-    let c = pair(s, at + 4);
-    let d = pair(s, at + 6);
+    let a = pair(s, at) as u64;
+    let b = pair(s, at + 2) as u64;
+    let c = pair(s, at + 4) as u64;
+    let d = pair(s, at + 6) as u64;
     ((a * 65536 + b) * 65536 + c) * 65536 + d
 }
 
@@ -62,7 +63,7 @@ pub fn same(x: f64, y: f64) -> bool
     f64::to_bits(x) == f64::to_bits(y)
 }
 
-// Whether a file had n bytes more, which are then the first of s.
+// Reads n bytes more of a file into the first places of s; whether there were so many. No contract can say what a file holds.
 pub fn read(fd: i32, s: &mut [u8], n: usize) -> bool
     requires { ⌜ n ≤ length (now s) ⌝ }
     ensures { λ _. ⌜ length (now (s .exit)) ≡ length (now (s .entry)) ⌝ }

@@ -1,8 +1,8 @@
 -- `case_text::check_part` meets its contract: a good trailer's sections lie in the text. Assumes nothing.
 use native.Mathlib.Omega.{arith}
 use borrow.Author.Needs.{needs}
-use Rattle.case_text.specs.Trailer.{bytesOf}
-use Rattle.case_text.specs.Trailer.Laws.{within}
+use Rattle.trailer.specs.Trailer.{bytesOf}
+use Rattle.trailer.specs.Trailer.Laws.{within}
 use Rattle.case_text.specs.Text.{partOf}
 use Rattle.case_text.proofs.check_part.Statement.{statement}
 use Rattle.case_text.proofs.check_part.Tie as tie

@@ -15,19 +15,19 @@ returns-3 : tie.Need-returns-3
 returns-3 c =
     let t = c .before in
     let i = t .before in
-    rw (le-ltb _ _ (i .before .if1 .left), le-ltb _ _ (i .if2 .left), sym (t .trailer .ensures) ∙ not-true (t .trailer .result) (c .if3 .taken))
+    rw (le-ltb _ _ (i .before .if1 .left), le-ltb _ _ (i .if2 .left), sym (t .is-trailer .ensures) ∙ not-true (t .is-trailer .result) (c .if3 .taken))
 
 returns-4 : tie.Need-returns-4
 returns-4 c =
     let p = c .before in
     let t = p .before .before in
     let i = t .before in
-    rw (le-ltb _ _ (i .before .if1 .left), le-ltb _ _ (i .if2 .left), sym (t .trailer .ensures) ∙ not-false (t .trailer .result) (p .before .if3 .left), ← p .stranger .ensures, lt-ltb _ _ (c .if4 .taken))
+    rw (le-ltb _ _ (i .before .if1 .left), le-ltb _ _ (i .if2 .left), sym (t .is-trailer .ensures) ∙ not-false (t .is-trailer .result) (p .before .if3 .left), ← p .stranger .ensures, lt-ltb _ _ (c .if4 .taken))
 
 body-requires : tie.Need-body-requires
 body-requires c κs =
     let i = c .before .before in
-    let t = i .before .trailer in
+    let t = i .before .is-trailer in
     (search needs, sym (t .ensures) ∙ not-false (t .result) (i .if3 .left))
 
 returns-5 : tie.Need-returns-5
@@ -36,7 +36,7 @@ returns-5 c =
     let p = j .before in
     let t = p .before .before in
     let i = t .before in
-    rw (le-ltb _ _ (i .before .if1 .left), le-ltb _ _ (i .if2 .left), sym (t .trailer .ensures) ∙ not-false (t .trailer .result) (p .before .if3 .left), ← p .stranger .ensures, le-ltb _ _ (j .if4 .left))
+    rw (le-ltb _ _ (i .before .if1 .left), le-ltb _ _ (i .if2 .left), sym (t .is-trailer .ensures) ∙ not-false (t .is-trailer .result) (p .before .if3 .left), ← p .stranger .ensures, le-ltb _ _ (j .if4 .left))
     (c .body .ensures)
 
 pub check-text-spec : {M : Type 1} → statement M

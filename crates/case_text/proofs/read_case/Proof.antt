@@ -65,8 +65,8 @@ room c = record {
 
 room-is : (c : Judged) → room c ≡ roomOf (old (start-of c))
 room-is c =
-    same-room _ _ _ _ _ _ _ _ _ _ (c .before .before .before .before .before .before .least8 .ensures) (c .before .before .before .before .before .least .ensures)
-    (rw (← c .before .before .before .before .least2 .ensures) (c .before .before .before .least3 .ensures)) (c .before .before .least4 .ensures) (c .before .least42 .ensures)
+    same-room _ _ _ _ _ _ _ _ _ _ (c .before .before .before .before .before .before .least8 .ensures) (c .before .before .before .before .before .least .ensures .0)
+    (rw (← c .before .before .before .before .least2 .ensures .0) (c .before .before .before .least3 .ensures .0)) (c .before .before .least4 .ensures .0) (c .before .least42 .ensures)
 
 abbrev Found : tie.After-section-places → Type 0
 Found c = let j = judged-of (c .before) in Placed (start-of j .args .text .now) (roomOf (old (start-of j))) (c .section-places .result)

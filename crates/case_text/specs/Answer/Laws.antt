@@ -10,21 +10,21 @@ use lib.Ieee.{Float}
 use lib.ListN.{length}
 use lib.Seq.{slice}
 use borrow.Author.Tests.{leb-true}
-use Rattle.fields.specs.Cut.Laws.{decided, and-left, and-right}
+use Rattle.real.specs.Tests.{decided, and-left, and-right}
 use Rattle.rows.specs.Asked.{sizeOf}
 use Rattle.rows.specs.Printed.Laws.{section-rows, section-most}
 use Rattle.rows.specs.declared.Section.{Section}
 use Rattle.rows.specs.declared.Section.the-variants as Section
 use Rattle.rows.specs.declared.Check.the-variants as Check
 use Rattle.columns.specs.Columns.{rowCount}
-use Rattle.case_text.specs.Trailer.{startOf, bytesOf, placesOf}
-use Rattle.case_text.specs.Trailer.Laws.{within}
+use Rattle.trailer.specs.Trailer.{startOf, bytesOf, placesOf}
+use Rattle.trailer.specs.Trailer.Laws.{within}
 use Rattle.case_text.specs.Text.{partOf, textOf}
 use Rattle.case_text.specs.Text.Laws.{Accepted, Where, text-sound}
 use Rattle.case_text.specs.Answer.{Columns, columns, roomOf, fitsOf, withRoom, judgedOf, filledFrom, writtenOf, outcome, paperOf, settledOf, readOf}
 use Rattle.case_text.specs.declared.Tables.{Tables}
 use Rattle.case_text.specs.declared.Room.{Room}
-use Rattle.case_text.specs.declared.Places.{Places}
+use Rattle.trailer.specs.declared.Places.{Places}
 use Rattle.case_text.specs.declared.Reading.{Reading}
 use Rattle.case_text.specs.declared.Reading.the-variants as Reading
 

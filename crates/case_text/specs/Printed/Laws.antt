@@ -11,7 +11,7 @@ use lib.Dec.{eqb}
 use lib.ListN.{length, getD, take, drop, drop-of-length-le, take-append-drop}
 use lib.Seq.{slice, drop-cons, drop-append-le, length-take-le}
 use borrow.Author.Tests.{eqb-true, eq-eqb}
-use Rattle.fields.specs.Cut.Laws.{decided, true-false}
+use Rattle.real.specs.Tests.{decided, true-false}
 use Rattle.fields.specs.Digits.{digits, digitsOf, isNumber}
 use Rattle.rows.specs.Rows.{rowsOf}
 use Rattle.rows.specs.Printed.{tableOf}
@@ -19,8 +19,8 @@ use Rattle.rows.specs.Printed.Laws.{section-printed, section-sound, Sound}
 use Rattle.rows.specs.declared.Section.{Section}
 use Rattle.rows.specs.declared.Section.the-variants as Section
 use Rattle.rows.specs.declared.Check.the-variants as Check
-use Rattle.case_text.specs.Trailer.{groupOf, startAt, risingOf, startOf, endOf, bytesOf}
-use Rattle.case_text.specs.Trailer.Laws.{first-group, groups-after, Good, good, rising, Within, within}
+use Rattle.trailer.specs.Trailer.{groupOf, startAt, risingOf, startOf, endOf, bytesOf}
+use Rattle.trailer.specs.Trailer.Laws.{first-group, groups-after, Good, good, rising, Within, within}
 use Rattle.case_text.specs.Text.{partOf, textOf}
 use Rattle.case_text.specs.Text.Laws.{accepted-has}
 use Rattle.case_text.specs.Printed.{rowsPrinted, groupsPrinted, trailerPrinted, textPrinted}

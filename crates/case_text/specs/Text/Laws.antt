@@ -8,12 +8,12 @@ use lib.Dec.{ltb}
 use lib.ListN.{length, getD}
 use lib.Seq.{slice}
 use borrow.Author.Tests.{ltb-false}
-use Rattle.fields.specs.Cut.Laws.{decided}
+use Rattle.real.specs.Tests.{decided}
 use Rattle.rows.specs.declared.Section.the-variants as Section
 use Rattle.rows.specs.declared.Check.{Check}
 use Rattle.rows.specs.declared.Check.the-variants as Check
 use Rattle.case_text.specs.Alphabet.{knownOf}
-use Rattle.case_text.specs.Trailer.{modeOf, trailerOf}
+use Rattle.trailer.specs.Trailer.{modeOf, trailerOf}
 use Rattle.case_text.specs.Text.{partOf, thenSection, afterY, afterL, afterG, afterR, afterB, bodyOf, afterTrailer, afterLength, textOf}
 use Rattle.case_text.specs.declared.Tables.{Tables}
 use Rattle.case_text.specs.declared.Reading.{Reading}

@@ -12,7 +12,7 @@ use lib.ListN.{length, getD, set, length-set}
 use lib.Seq.{slice, sets}
 use borrow.Author.Tests.{eqb-true}
 use Rattle.fields.specs.Cut.{only, has, pieces, Found}
-use Rattle.fields.specs.Cut.Laws.{decided, true-false, and-left}
+use Rattle.real.specs.Tests.{decided, true-false, and-left}
 use Rattle.fields.specs.Digits.{digits}
 use Rattle.fields.specs.Real.{amountOf, realOf, orNanOf, isReal}
 use Rattle.rows.specs.Line.Laws.{below-or}

@@ -1,7 +1,7 @@
 -- Laws on a part of a list, cut at a byte: what `find` shows of the place it gives. Assumes nothing.
 use mathlib.Core.Path.{_≡_, refl, sym, ap, _∙_}
-use mathlib.Core.Bool.{Bool, true, false, _&&_, true≢false}
-use mathlib.Core.Logic.{_⊎_, inl, inr, ⊎-elim}
+use mathlib.Core.Bool.{true, false}
+use mathlib.Core.Logic.{⊎-elim}
 use mathlib.Core.List.{List, [], _∷_}
 use Prim.Native.Nat.{ℕ, suc, _+_, _≤_, _<_}
 use native.Mathlib.Numerals.{add-one}
@@ -10,24 +10,8 @@ use lib.Dec.{eqb}
 use lib.ListN.{length, getD, take, drop}
 use lib.Seq.{slice, slice-cons, slice-empty, length-slice, take-take, take-add, drop-at, drop-drop, length-take-le}
 use borrow.Author.Tests.{eq-eqb, ne-eqb}
+use Rattle.real.specs.Tests.{decided, true-false}
 use Rattle.fields.specs.Cut.{empty, upto, past, has, pieces, onto, Found}
-
--- ---- what a test says
-
-pub decided : (t : Bool) → (t ≡ true) ⊎ (t ≡ false)
-decided true = inl refl
-decided false = inr refl
-
-pub true-false : {t : Bool} → t ≡ true → t ≡ false → ⊥
-true-false p q = true≢false (sym p ∙ q)
-
-pub and-left : (a b : Bool) → a && b ≡ true → a ≡ true
-and-left true b h = refl
-and-left false b h = h
-
-pub and-right : (a b : Bool) → a && b ≡ true → b ≡ true
-and-right true b h = h
-and-right false b h = absurd (true-false h refl)
 
 -- ---- a part of a list
 

@@ -10,7 +10,8 @@ use lib.Dec.{lit<, leb}
 use lib.ListN.{length, getD}
 use lib.Seq.{slice, slice-empty}
 use borrow.Author.Tests.{le-leb, lt-leb, leb-true}
-use Rattle.fields.specs.Cut.Laws.{decided, and-left, and-right, slice-step}
+use Rattle.real.specs.Tests.{decided, and-left, and-right}
+use Rattle.fields.specs.Cut.Laws.{slice-step}
 use Rattle.fields.specs.Digits.{digitsOf, digits, digit, number}
 use Rattle.fields.specs.declared.Digits.{Digits}
 use Rattle.fields.specs.declared.Digits.the-variants as Digits

@@ -3,21 +3,22 @@ use mathlib.Core.Path.{sym, _∙_}
 use native.Mathlib.Omega.{arith}
 use borrow.Author.Needs.{needs}
 use mathlib.Core.Bool.{true≢false}
-use Rattle.injection_vectors.proofs.Sizes.{square}
+use Rattle.vectors.specs.Words.Laws.{no-record}
+use Rattle.vectors.specs.Sizes.{square}
 use Rattle.injection_vectors.proofs.next.Statement.{statement}
 use Rattle.injection_vectors.proofs.next.Tie as tie
 
 returns : tie.Need-returns
-returns c = record { small = omega arith; agreed = λ e. absurd (omega arith); differed = λ e. absurd (omega arith) }
+returns c = no-record (omega arith) (omega arith)
 
 returns-2 : tie.Need-returns-2
-returns-2 c = record { small = omega arith; agreed = λ e. absurd (omega arith); differed = λ e. absurd (omega arith) }
+returns-2 c = no-record (omega arith) (omega arith)
 
 returns-3 : tie.Need-returns-3
-returns-3 c = record { small = omega arith; agreed = λ e. absurd (omega arith); differed = λ e. absurd (omega arith) }
+returns-3 c = no-record (omega arith) (omega arith)
 
 returns-4 : tie.Need-returns-4
-returns-4 c = record { small = omega arith; agreed = λ e. absurd (omega arith); differed = λ e. absurd (omega arith) }
+returns-4 c = no-record (omega arith) (omega arith)
 
 mul-read-3 : tie.Need-mul-read-3
 mul-read-3 c = omega (arith, square _ (c .before .if4 .left))
@@ -32,7 +33,7 @@ read-requires-2 : tie.Need-read-requires-2
 read-requires-2 c κs = omega (arith, square _ (c .before .if4 .left))
 
 returns-5 : tie.Need-returns-5
-returns-5 c = record { small = omega arith; agreed = λ e. absurd (omega arith); differed = λ e. absurd (omega arith) }
+returns-5 c = no-record (omega arith) (omega arith)
 
 point-requires : tie.Need-point-requires
 point-requires c κs =

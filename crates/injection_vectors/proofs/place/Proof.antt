@@ -2,7 +2,7 @@
 use native.Mathlib.Omega.{arith}
 use borrow.Author.Tests.{lt-ltb, le-ltb}
 use Rattle.injection_vectors.specs.Told.{placeTold}
-use Rattle.injection_vectors.proofs.Sizes.{square, row-ends}
+use Rattle.vectors.specs.Sizes.{square, row-ends}
 use Rattle.injection_vectors.proofs.place.Statement.{statement}
 use Rattle.injection_vectors.proofs.place.Tie as tie
 

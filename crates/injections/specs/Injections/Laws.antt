@@ -81,14 +81,6 @@ module _ (y : Ybus) (v : Column) where
 -- ---- phasors
 
 module _ (n : ℕ) (y : Ybus) (vm va : List Float) where
-  pub phasors-v : phasorsOf n y vm va .v ≡ voltagesOf n vm va
-  unfolding phasorsOf
-  phasors-v = refl
-
-  pub phasors-i : phasorsOf n y vm va .i ≡ currentsTo (length (y .row)) y (voltagesOf n vm va)
-  unfolding phasorsOf
-  phasors-i = refl
-
   pub v-at : (b : ℕ) → b < n → n ≤ 32 → at (phasorsOf n y vm va .v) b ≡ voltageAt vm va b
   unfolding phasorsOf
   v-at b p few = voltages-at n vm va b p few

@@ -106,8 +106,8 @@ module _ (y : Ybus) (va : List Float) (s : Phasors) (l : AcPfLayout) (w : List F
   jacobian-beyond zero = rw (jacobian-end y va s l w) (beyond-all w)
   jacobian-beyond (suc k) = rw (jacobian-turn y va s l w k) (beyond-on (jacobian-beyond k) (entered-all-beyond _ _ _ _ _ _))
 
-  pub jacobian-length : (n : ℕ) → length (jacobianOf n y va s l w) ≡ length w
-  jacobian-length n = jacobian-beyond (length (y .row)) .size
+  pub jacobian-length : length (jacobianOf y va s l w) ≡ length w
+  jacobian-length = jacobian-beyond (length (y .row)) .size
 
-  pub jacobian-untouched : (n i : ℕ) → 4096 ≤ i → Linear.at (jacobianOf n y va s l w) i ≡ Linear.at w i
-  jacobian-untouched n i h = jacobian-beyond (length (y .row)) .rest i h
+  pub jacobian-untouched : (i : ℕ) → 4096 ≤ i → Linear.at (jacobianOf y va s l w) i ≡ Linear.at w i
+  jacobian-untouched i h = jacobian-beyond (length (y .row)) .rest i h

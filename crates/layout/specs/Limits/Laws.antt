@@ -60,10 +60,6 @@ pub qmax-at : (buses : List ℕ) (qmin qmax : List Float) (b : ℕ) → b < 32 �
 unfolding limitsOf
 qmax-at buses qmin qmax b h = table-at 32 nought (sumAt (length buses) buses qmax) b nan h (le-refl 32)
 
-pub has-gen-at : (buses : List ℕ) (qmin qmax : List Float) (b : ℕ) → b < 32 → getD (limitsOf buses qmin qmax .«has_gen») b false ≡ hasGen (length buses) buses b
-unfolding limitsOf
-has-gen-at buses qmin qmax b h = table-at 32 false (hasGen (length buses) buses) b false h (le-refl 32)
-
 -- demand 3 at this level: values at other buses' generators don't matter to a bus
 pub sum-unread : (k : ℕ) (buses : List ℕ) (q p : List Float) (b : ℕ) → ((g : ℕ) → g < k → (getD buses g 0 ≡ b → ⊥) ⊎ (getD q g nan ≡ getD p g nan)) → sumAt k buses q b ≡ sumAt k buses p b
 unfolding sumAt

@@ -3,17 +3,15 @@ use Prim.Native.Nat.{ℕ, zero, suc, _≤_, _<_}
 use mathlib.Core.Path.{_≡_, refl, sym, ap, _∙_}
 use mathlib.Core.Bool.{Bool, true, false, cond}
 use mathlib.Core.List.{List, _∷_}
-use mathlib.Core.Logic.{_⊎_, ⊎-elim}
-use native.Mathlib.Nat.{not-suc-le-zero, le-of-suc-le-suc, eq-or-lt-of-le}
+use mathlib.Core.Logic.{⊎-elim}
+use native.Mathlib.Nat.{not-suc-le-zero}
 use native.Mathlib.Omega.{arith}
 use borrow.Author.Tests.{eq-eqb, eqb-true, eqb-false, ltb-true, ltb-false}
 use lib.Dec.{eqb, ltb}
 use lib.ListN.{length, getD, set, replicate, length-set, length-replicate, getD-replicate}
 use lib.Seq.{ext-getD, getD-set-same, getD-set-other}
+use Rattle.real.specs.Tests.{same-or-below}
 use Rattle.layout.specs.Table.{stores, table}
-
-same-or-below : {i k : ℕ} → i < suc k → (i ≡ k) ⊎ (i < k)
-same-or-below p = eq-or-lt-of-le (le-of-suc-le-suc p)
 
 module _ {A : Type 0} where
   pub stores-length : (f : ℕ → A) (k : ℕ) (l : List A) → length (stores f k l) ≡ length l

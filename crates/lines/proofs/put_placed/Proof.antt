@@ -1,7 +1,7 @@
 -- `lines::put_placed` meets its contract: one value stands between the head and the line's end. Assumes nothing.
 use native.Mathlib.Omega.{arith}
 use borrow.Author.Needs.{needs}
-use Rattle.tables.specs.Tables.{whole}
+use Rattle.real.specs.Paper.{whole}
 use Rattle.lines.specs.Lines.Laws.{then, one-value}
 use Rattle.lines.proofs.put_placed.Statement.{statement}
 use Rattle.lines.proofs.put_placed.Tie as tie

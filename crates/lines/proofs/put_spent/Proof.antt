@@ -1,7 +1,7 @@
 -- `lines::put_spent` meets its contract: two values stand between the head and the line's end. Assumes nothing.
 use native.Mathlib.Omega.{arith}
 use borrow.Author.Needs.{needs}
-use Rattle.tables.specs.Tables.{whole, real}
+use Rattle.real.specs.Paper.{whole, real}
 use Rattle.lines.specs.Lines.Laws.{then, two-values}
 use Rattle.lines.proofs.put_spent.Statement.{statement}
 use Rattle.lines.proofs.put_spent.Tie as tie

@@ -11,7 +11,7 @@ use lib.ListN.{length, getD, set, take, length-append}
 use lib.Seq.{sets, take-suc, length-take-le}
 use lib.Ieee.{Float, binary64, isNan, toBits}
 use Rattle.io.specs.Digits.{glyph, digits, Fewest}
-use Rattle.tables.specs.Tables.{Value}
+use Rattle.real.specs.Paper.{Value}
 use Rattle.lines.specs.Lines.{decimalBy, realOf, valueOf, valuesOf, headOf, refusedOf, Wrote}
 
 -- ---- bytes after bytes

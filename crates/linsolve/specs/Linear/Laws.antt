@@ -15,7 +15,7 @@ use lib.Ieee.{Float, nan, binary64, sub, mul, div, lt}
 use Rattle.real.specs.Literals.{nought}
 use Rattle.real.specs.Real.{absolute}
 use Rattle.linsolve.specs.declared.Solution.the-variants.{Solved, Singular}
-use Rattle.linsolve.specs.Linear.{at, zeroed, clearRows, cleared, added, pivotFrom, swapped, swapRows, less, subRow, subLower, Outcome, outcome, answerOf, spaceOf, reduce, lessKnown, substitute, solution}
+use Rattle.linsolve.specs.Linear.{at, zeroed, clearRows, cleared, added, pivotFrom, swapped, swapRows, less, subRow, subLower, Outcome, outcome, spaceOf, reduce, lessKnown, substitute, solution}
 
 -- ---- Turns and ends
 
@@ -131,10 +131,6 @@ solution-singular dim c w v e = rw (← e)
 pub solution-of-none : (w : List Float) → solution 0 w ≡ outcome Solved w
 unfolding solution
 solution-of-none w = refl
-
--- an outcome is its answer and its workspace
-pub outcome-parts : (o : Outcome) → o ≡ outcome (answerOf o) (spaceOf o)
-outcome-parts (outcome s w) = refl
 
 -- ---- What is left alone
 

@@ -3,17 +3,18 @@ use mathlib.Core.Bool.{true≢false}
 use mathlib.Core.Path.{sym, _∙_}
 use native.Mathlib.Omega.{arith}
 use borrow.Author.Needs.{needs}
+use Rattle.vectors.specs.Words.Laws.{no-record}
 use Rattle.linsolve_vectors.proofs.next.Statement.{statement}
 use Rattle.linsolve_vectors.proofs.next.Tie as tie
 
 returns : tie.Need-returns
-returns c = record { small = omega arith; agreed = λ e. absurd (omega arith); differed = λ e. absurd (omega arith) }
+returns c = no-record (omega arith) (omega arith)
 
 returns-2 : tie.Need-returns-2
-returns-2 c = record { small = omega arith; agreed = λ e. absurd (omega arith); differed = λ e. absurd (omega arith) }
+returns-2 c = no-record (omega arith) (omega arith)
 
 returns-3 : tie.Need-returns-3
-returns-3 c = record { small = omega arith; agreed = λ e. absurd (omega arith); differed = λ e. absurd (omega arith) }
+returns-3 c = no-record (omega arith) (omega arith)
 
 returns-4 : tie.Need-returns-4
 returns-4 c =

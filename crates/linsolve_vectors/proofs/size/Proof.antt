@@ -1,7 +1,7 @@
 -- `linsolve_vectors::size` meets its contract: a square of at most 64 is at most 4,096. Assumes nothing.
 use mathlib.Core.Path.{refl}
 use native.Mathlib.Omega.{arith}
-use Rattle.linsolve_vectors.proofs.Sizes.{square}
+use Rattle.vectors.specs.Sizes.{square}
 use Rattle.linsolve_vectors.proofs.size.Statement.{statement}
 use Rattle.linsolve_vectors.proofs.size.Tie as tie
 

@@ -1,6 +1,6 @@
 -- `linsolve_vectors::slot` meets its contract, by its ways; a row below dim ends where dim rows end. Assumes nothing.
 use native.Mathlib.Omega.{arith}
-use Rattle.linsolve_vectors.proofs.Sizes.{square, row-ends}
+use Rattle.vectors.specs.Sizes.{square, row-ends}
 use borrow.Author.Needs.{needs}
 use borrow.Author.Tests.{lt-ltb, le-ltb, eq-eqb, ne-eqb}
 use Rattle.linsolve_vectors.specs.Told.{slotOf}

@@ -37,7 +37,7 @@ unfolding measuredOf
 measured-is g p found ef r er x ex = rw (ex, er, ef)
 
 pub direction-is : (y : Ybus) (l : AcPfLayout) (va : List Float) (m : Measured) (w w₁ w₂ w₃ : List Float) (o : Outcome) → w₁ ≡ cleared (l .dim) w
-    → w₂ ≡ jacobianOf (l .n) y va (m .phasors) l w₁ → w₃ ≡ sidesTo (l .dim) (m .r) w₂ → o ≡ solution (l .dim) w₃ → o ≡ directionOf y l va m w
+    → w₂ ≡ jacobianOf y va (m .phasors) l w₁ → w₃ ≡ sidesTo (l .dim) (m .r) w₂ → o ≡ solution (l .dim) w₃ → o ≡ directionOf y l va m w
 unfolding directionOf
 direction-is y l va m w w₁ w₂ w₃ o e₁ e₂ e₃ eo = rw (eo, e₃, e₂, e₁)
 

@@ -21,7 +21,7 @@ use Rattle.layout.specs.Kinds.Laws.{kinds-at}
 use Rattle.layout.specs.Residual.Laws.{NoReactive}
 use Rattle.starts.specs.Starts.{caseVm, caseOf}
 use Rattle.qlim.specs.declared.Settled.{Settled}
-use Rattle.qlim.specs.Moves.{pinOf, pinned}
+use Rattle.moves.specs.Moves.{pinOf, pinned}
 use Rattle.qlim.specs.Rounds.{Study, qlimOf}
 use Rattle.qlim.specs.Rounds.Unread.{start-unread}
 use Rattle.pf_ac.specs.declared.AcStart.{AcStart}

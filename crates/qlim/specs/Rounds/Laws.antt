@@ -14,10 +14,10 @@ use Rattle.newton.specs.declared.Ended.{Ended}
 use Rattle.newton.specs.Newton.{problem, newtonOf, Run, run}
 use Rattle.newton.specs.Newton as Newton
 use Rattle.layout.specs.Layout.Laws.{dim-most}
-use Rattle.qlim.specs.declared.Move.{Move}
-use Rattle.qlim.specs.declared.Track.{Track}
+use Rattle.moves.specs.declared.Move.{Move}
+use Rattle.moves.specs.declared.Track.{Track}
 use Rattle.qlim.specs.declared.Settled.{Settled}
-use Rattle.qlim.specs.Moves.{movesOf, anyMove, kindsAfter, trackAfter, pinned, lettersOf}
+use Rattle.moves.specs.Moves.{movesOf, anyMove, kindsAfter, trackAfter, pinned, lettersOf}
 use Rattle.qlim.specs.Rounds.{Study, Ready, Done, done, infinity, settle, roundOf, roundsFrom, fresh, qlimOf}
 
 pub rounds-none : (s : Study) (kinds : List BusKind) (t : Track) (p : Point) (last : Settled) (w : List Float) → done last w ≡ roundsFrom 0 s kinds t p last w

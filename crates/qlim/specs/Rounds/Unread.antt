@@ -19,12 +19,12 @@ use Rattle.layout.specs.Residual.Laws.{NoActive, NoReactive, residual-unread}
 use Rattle.injections.specs.Injections.{injectionsOf}
 use Rattle.newton.specs.Newton.{Problem, problem, measuredOf, newtonOf, Run, endedOf, spaceAfter}
 use Rattle.newton.specs.Newton.Laws.{newton-same}
-use Rattle.qlim.specs.declared.Move.{Move}
-use Rattle.qlim.specs.declared.Move.the-variants.{Keep}
-use Rattle.qlim.specs.declared.Track.{Track}
+use Rattle.moves.specs.declared.Move.{Move}
+use Rattle.moves.specs.declared.Move.the-variants.{Keep}
+use Rattle.moves.specs.declared.Track.{Track}
 use Rattle.qlim.specs.declared.Settled.{Settled}
-use Rattle.qlim.specs.Moves.{moveAt, movesOf, anyMove, kindsAfter, trackTo, trackAfter, pinned, lettersOf}
-use Rattle.qlim.specs.Moves.Laws.{NoLimits, Standing, slack, held, released, loaded, active-v, active-q, reactive-q, move-alike, After, standing-on}
+use Rattle.moves.specs.Moves.{moveAt, movesOf, anyMove, kindsAfter, trackTo, trackAfter, pinned, lettersOf}
+use Rattle.moves.specs.Moves.Laws.{NoLimits, Standing, slack, held, released, loaded, active-v, active-q, reactive-q, move-alike, After, standing-on}
 use Rattle.qlim.specs.Rounds.{Study, study, Done, done, infinity, settle, roundOf, roundsFrom, fresh, qlimOf}
 
 -- alike for rounds that begin under these kinds: at each bus a figure agrees, or the bus is of a kind at which it is withheld

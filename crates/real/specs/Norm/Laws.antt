@@ -1,29 +1,19 @@
 -- The norm as a loop works it out, an entry more at each turn; and that it is what 01 says. Assumes nothing.
 use Prim.Native.Nat.{ℕ, zero, suc, _+_, _<_}
 use mathlib.Core.Path.{_≡_, refl, ap, _∙_}
-use mathlib.Core.Bool.{Bool, true, false, _||_, cond, true≢false}
+use mathlib.Core.Bool.{Bool, true, false, _||_, cond}
 use mathlib.Core.List.{List}
 use mathlib.Core.Logic.{_⊎_, inl, inr, ⊎-elim}
 use native.Mathlib.Omega.{arith}
-use native.Mathlib.Nat.{not-suc-le-zero, le-of-suc-le-suc, eq-or-lt-of-le}
+use native.Mathlib.Nat.{not-suc-le-zero}
 use native.Mathlib.Numerals.{add-one}
 use lib.ListN.{getD}
 use lib.Ieee.{Float, nan, lt, isNan, ofBits}
+use Rattle.real.specs.Tests.{nor-left, nor-right, same-or-below}
 use Rattle.real.specs.Literals.{nought}
 use Rattle.real.specs.Real.{absolute, larger, maxOf}
 use Rattle.real.specs.Real.Laws.{not-above, lt-self, nan-absolute, number-larger, max-larger}
 use Rattle.real.specs.Norm.{anyNan, largest, normOf, IsNorm}
-
-same-or-below : {i k : ℕ} → i < suc k → (i ≡ k) ⊎ (i < k)
-same-or-below p = eq-or-lt-of-le (le-of-suc-le-suc p)
-
-first : (a b : Bool) → (a || b) ≡ false → a ≡ false
-first false b h = refl
-first true b h = h
-
-second : (a b : Bool) → (a || b) ≡ false → b ≡ false
-second false b h = h
-second true b h = absurd (true≢false h)
 
 or-first : {a : Bool} (b : Bool) → a ≡ true → (a || b) ≡ true
 or-first b h = rw h
@@ -52,7 +42,7 @@ number : (k : ℕ) (l : List Float) → anyNan k l ≡ false → isNan (largest 
 unfolding anyNan largest isNan ofBits
 number zero l h = refl
 number (suc k) l h =
-    number-larger (largest k l) (absolute (getD l k nan)) (number k l (first (anyNan k l) _ h)) (nan-absolute (getD l k nan) ∙ second (anyNan k l) _ h)
+    number-larger (largest k l) (absolute (getD l k nan)) (number k l (nor-left (anyNan k l) _ h)) (nan-absolute (getD l k nan) ∙ nor-right (anyNan k l) _ h)
 
 pub norm-turn : (k : ℕ) (l : List Float) (norm r : Float) → Found k l norm → isNan (getD l k nan) ≡ false → r ≡ maxOf norm (absolute (getD l k nan)) → Found (k + 1) l r
 unfolding largest

@@ -1,17 +1,12 @@
 -- `replay::next` meets its contract: only the last two ways tell of a record, as `agrees` found it. Assumes nothing.
 use mathlib.Core.Bool.{true≢false}
 use mathlib.Core.Path.{sym, _∙_}
-use Prim.Native.Nat.{ℕ, _≤_}
 use native.Mathlib.Omega.{arith}
 use borrow.Author.Needs.{needs}
 use lib.Seq.{length-take-le}
-use Rattle.vectors.specs.Words.{Found}
+use Rattle.vectors.specs.Words.Laws.{no-record}
 use Rattle.replay.proofs.next.Statement.{statement}
 use Rattle.replay.proofs.next.Tie as tie
-
--- 2 and 3 say nothing of a report
-nothing : {r : ℕ} {P : Type 0} → 2 ≤ r → r ≤ 3 → Found 3 r P
-nothing low high = record { small = high; agreed = λ e. absurd (omega arith); differed = λ e. absurd (omega arith) }
 
 slice-aggregate-agrees : tie.Need-slice-aggregate-agrees
 slice-aggregate-agrees c =
@@ -48,20 +43,20 @@ next-spec =
     (tie.spec
     (λ c κs. search needs)
     (λ c. search needs)
-    (λ c. nothing (omega arith) (omega arith))
+    (λ c. no-record (omega arith) (omega arith))
     (λ c. search needs)
-    (λ c. nothing (omega arith) (omega arith))
+    (λ c. no-record (omega arith) (omega arith))
     (λ c κs. search needs)
     (λ c κs. search needs)
     (λ c κs. search needs)
     (λ c. search needs)
     (λ c. search needs)
-    (λ c. nothing (omega arith) (omega arith))
+    (λ c. no-record (omega arith) (omega arith))
     (λ c κs. search needs)
     (λ c. search needs)
     (λ c. search needs)
     (λ c. search needs)
-    (λ c. nothing (omega arith) (omega arith))
+    (λ c. no-record (omega arith) (omega arith))
     (λ c. search needs)
     slice-aggregate-agrees
     (λ c. search needs)

@@ -6,7 +6,8 @@ use mathlib.Core.Bool.{true, cond}
 use borrow.Author.Tests.{leb-true, le-leb, eq-eqb}
 use lib.Dec.{leb}
 use lib.ListN.{length, take}
-use Rattle.fields.specs.Cut.Laws.{and-left, and-right}
+use Rattle.real.specs.Tests.{and-left, and-right, both}
+use Rattle.real.specs.Paper.{refused}
 use lib.Seq.{length-take-le}
 use lib.Ieee.{Float}
 use Rattle.case_text.specs.declared.Tables.{Tables}
@@ -22,7 +23,7 @@ use Rattle.tables.specs.declared.Outcome.{Outcome}
 use Rattle.pf_ac.specs.Network.Withheld.{Alike}
 use Rattle.tables.specs.Tables.Withheld.{solve-withheld}
 use Rattle.pf_ac.specs.Network.{acPfOf}
-use Rattle.tables.specs.Tables.{Outs, refused, both, counted, roomy, numbered, Answer, answer, paperOf, ranOf, solveOf}
+use Rattle.tables.specs.Tables.{Outs, counted, roomy, numbered, Answer, answer, paperOf, ranOf, solveOf}
 use Rattle.lines.specs.Lines.{Wrote}
 use Rattle.report.specs.Report.{Report, startOf, networkBy, networkOf, blank, blanks, Few, Full, printedOf, answeredOf, solvedOf, reportOf, Reported}
 

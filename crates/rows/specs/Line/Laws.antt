@@ -10,7 +10,8 @@ use lib.ListN.{length}
 use lib.Seq.{slice, length-slice}
 use borrow.Author.Tests.{ltb-true, ltb-false}
 use Rattle.fields.specs.Cut.{empty, only, upto, pieces, Found}
-use Rattle.fields.specs.Cut.Laws.{decided, true-false, and-left, found, slice-some, slice-none}
+use Rattle.real.specs.Tests.{decided, true-false, and-left}
+use Rattle.fields.specs.Cut.Laws.{found, slice-some, slice-none}
 use Rattle.rows.specs.Asked.{letterOf, wantOf, goodOf}
 use Rattle.rows.specs.Line.{allSome, spacedOf, formOf, fieldsOf, tail}
 use Rattle.rows.specs.declared.Section.{Section}

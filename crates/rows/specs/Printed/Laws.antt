@@ -11,7 +11,7 @@ use lib.Dec.{eqb, leb}
 use lib.ListN.{length, getD}
 use borrow.Author.Tests.{eqb-true, leb-false}
 use Rattle.fields.specs.Cut.{empty, only, pieces, onto}
-use Rattle.fields.specs.Cut.Laws.{decided, true-false, and-left, and-right}
+use Rattle.real.specs.Tests.{decided, true-false, and-left, and-right}
 use Rattle.rows.specs.Asked.{letterOf, countOf, sizeOf, wantOf, goodOf}
 use Rattle.rows.specs.Line.{allSome, formOf, fieldsOf, lineOf, tail}
 use Rattle.rows.specs.Rows.{none, after, sectionOf, checkOf, ended, rowsOf}

@@ -10,7 +10,8 @@ use lib.ListN.{length}
 use lib.Seq.{slice, length-slice}
 use borrow.Author.Tests.{le-leb, lt-leb}
 use Rattle.fields.specs.Cut.{pieces, onto, Found}
-use Rattle.fields.specs.Cut.Laws.{decided, slice-some, slice-none}
+use Rattle.real.specs.Tests.{decided}
+use Rattle.fields.specs.Cut.Laws.{slice-some, slice-none}
 use Rattle.rows.specs.Asked.{sizeOf}
 use Rattle.rows.specs.Line.{lineOf}
 use Rattle.rows.specs.Line.Laws.{below-or}

@@ -1,10 +1,10 @@
 -- Each way out of the call, what its checks tell, and that its contract fixes everything. Assumes nothing.
 use Prim.Native.Nat.{ℕ, zero, suc, _≤_, _<_}
-use mathlib.Core.Bool.{Bool, true, false}
+use mathlib.Core.Bool.{true, false}
 use mathlib.Core.List.{List}
 use mathlib.Core.Path.{_≡_, refl, sym, ap, _∙_}
 use mathlib.Core.Logic.{⊎-elim}
-use native.Mathlib.Nat.{le-refl, not-suc-le-zero, le-of-suc-le-suc, eq-or-lt-of-le}
+use native.Mathlib.Nat.{le-refl, not-suc-le-zero}
 use native.Mathlib.Omega.{arith}
 use borrow.Author.Tests.{eqb-true, leb-true, ltb-true}
 use lib.Dec.{ltb}
@@ -13,6 +13,7 @@ use lib.Seq.{ext-getD}
 use lib.Ieee.{Float, nan}
 use Rattle.injections.specs.declared.Injections.{Injections}
 use Rattle.injections.specs.Injections.{Ybus, injectionsOf}
+use Rattle.real.specs.Tests.{both-l, both-r, same-or-below}
 use Rattle.real.specs.Literals.{nought}
 use Rattle.layout.specs.Table.{stores}
 use Rattle.layout.specs.Table.Laws.{stores-length, stores-at}
@@ -23,7 +24,7 @@ use Rattle.pf_ac.specs.Search.{searched}
 use Rattle.pf_ac.specs.Network.{Network, buses, tripletsOf, Ready, acPfOf}
 use Rattle.tables.specs.declared.Outcome.{Outcome}
 use Rattle.tables.specs.declared.Outcome.the-variants.{Solved, Counts, Room, Bus, NotConverged}
-use Rattle.tables.specs.Tables.{paperOf, Answer, Outs, outs, both, allBelow, counted, roomy, numbered, writtenOf, zeros, answer, ranOf, solveOf}
+use Rattle.tables.specs.Tables.{paperOf, Answer, Outs, outs, allBelow, counted, roomy, numbered, writtenOf, zeros, answer, ranOf, solveOf}
 
 -- ---- the ways out
 
@@ -65,22 +66,12 @@ zeros-are w =
 
 -- ---- what the checks tell
 
-pub both-l : (a b : Bool) → both a b ≡ true → a ≡ true
-unfolding both
-both-l true b h = refl
-both-l false b h = h
-
-pub both-r : (a b : Bool) → both a b ≡ true → b ≡ true
-unfolding both
-both-r true b h = h
-both-r false b h = cc
-
 below-at : (k n : ℕ) (l : List ℕ) → allBelow k n l ≡ true → (i : ℕ) → i < k → getD l i 0 < n
 unfolding allBelow
 below-at zero n l h i p = absurd (not-suc-le-zero p)
 below-at (suc k) n l h i p =
     ⊎-elim (λ e. rw e (ltb-true (getD l k 0) n (both-r (allBelow k n l) _ h))) (λ q. below-at k n l (both-l _ (ltb (getD l k 0) n) h) i q)
-    (eq-or-lt-of-le (le-of-suc-le-suc p))
+    (same-or-below p)
 
 pub ready : (t : Network) → counted t ≡ true → numbered t ≡ true → Ready t
 unfolding counted numbered
@@ -159,7 +150,7 @@ rooms t o w h =
 
 -- an answer on paper is that of one outcome
 pub paper-one : (r s : Outcome) → paperOf r ≡ paperOf s → r ≡ s
-paper-one (Solved i x) (Solved j y) e = cc
+paper-one (Solved i x) (Solved j y) e = let p : _≡_ {A = ℕ × Float} (i, x) (j, y) = cc in ap (λ (r : ℕ × Float). Solved (r .0) (r .1)) p
 paper-one (Solved i x) Counts e = cc
 paper-one (Solved i x) Room e = cc
 paper-one (Solved i x) Bus e = cc

@@ -7,13 +7,14 @@ use mathlib.Core.Path.{_≡_, refl, ap, _∙_}
 use borrow.Author.Tests.{leb-true}
 use lib.ListN.{length}
 use lib.Ieee.{Float}
+use Rattle.real.specs.Tests.{both-l}
+use Rattle.real.specs.Paper.{refused}
 use Rattle.injections.specs.Injections.{ybus}
 use Rattle.pf_ac.specs.declared.AcPf.the-variants as AcPf
 use Rattle.pf_ac.specs.Search.{Searched, searched}
 use Rattle.pf_ac.specs.Network.{Network, buses, acPfOf}
 use Rattle.pf_ac.specs.Network.Withheld.{Alike, withheld}
-use Rattle.tables.specs.Tables.{ok, refused, Outs, countedBy, counted, roomyBy, roomy, numberedBy, numbered, writtenOf, zeros, Answer, answer, ranOf, solveOf}
-use Rattle.tables.specs.Tables.Laws.{both-l}
+use Rattle.tables.specs.Tables.{ok, Outs, countedBy, counted, roomyBy, roomy, numberedBy, numbered, writtenOf, zeros, Answer, answer, ranOf, solveOf}
 
 few-of : (t : Network) → counted t ≡ true → buses t ≤ 32
 unfolding counted

@@ -19,11 +19,11 @@ loop-holds : tie.Need-loop-holds Inv-loop μ-loop
 loop-holds c = (omega arith, λ k h. absurd (omega arith))
 
 returns : tie.Need-returns Inv-loop μ-loop
-returns c = never (λ e. c .if1 .taken (c .before .before .wide .ensures ∙ told-at 0 _ _ e _ (omega arith) ∙ sym (c .before .told .ensures)))
+returns c = never (λ e. c .if1 .taken (c .before .before .wide .ensures .0 ∙ told-at 0 _ _ e _ (omega arith) ∙ sym (c .before .told .ensures)))
 
 loop-again : tie.Need-loop-again Inv-loop μ-loop
 loop-again c = let s = c .before .before .before .before .before in
-    (omega arith, below-more _ _ (s .loop .inv .1) (sym (c .before .before .wide .ensures) ∙ c .if1 .left ∙ c .before .told .ensures))
+    (omega arith, below-more _ _ (s .loop .inv .1) (sym (c .before .before .wide .ensures .0) ∙ c .if1 .left ∙ c .before .told .ensures))
 
 returns-2 : tie.Need-returns-2 Inv-loop μ-loop
 returns-2 c = (λ e. all-told 0 _ _ (λ i h. c .before .loop .inv .1 i (omega arith)), λ e. refl)

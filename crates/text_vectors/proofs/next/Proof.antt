@@ -4,17 +4,18 @@ use mathlib.Core.Bool.{true≢false}
 use native.Mathlib.Omega.{arith}
 use borrow.Author.Needs.{needs}
 use lib.Seq.{length-take-le}
+use Rattle.vectors.specs.Words.Laws.{no-record}
 use Rattle.text_vectors.proofs.next.Statement.{statement}
 use Rattle.text_vectors.proofs.next.Tie as tie
 
 returns : tie.Need-returns
-returns c = record { small = omega arith; agreed = λ e. absurd (omega arith); differed = λ e. absurd (omega arith) }
+returns c = no-record (omega arith) (omega arith)
 
 returns-2 : tie.Need-returns-2
-returns-2 c = record { small = omega arith; agreed = λ e. absurd (omega arith); differed = λ e. absurd (omega arith) }
+returns-2 c = no-record (omega arith) (omega arith)
 
 returns-3 : tie.Need-returns-3
-returns-3 c = record { small = omega arith; agreed = λ e. absurd (omega arith); differed = λ e. absurd (omega arith) }
+returns-3 c = no-record (omega arith) (omega arith)
 
 slice-aggregate-agrees : tie.Need-slice-aggregate-agrees
 slice-aggregate-agrees c = sym (length-take-le _ _ (omega arith))

@@ -1,0 +1,24 @@
+-- `trailer::group` meets its contract: five digits stay far below the limit. Assumes nothing.
+use mathlib.Core.Path.{_≡_}
+use Prim.Native.Nat.{_+_, _-_}
+use native.Mathlib.Omega.{arith}
+use borrow.Author.Needs.{needs}
+use borrow.Author.Tests.{eq-eqb, ne-eqb}
+use Rattle.trailer.proofs.group.Statement.{statement}
+use Rattle.trailer.proofs.group.Tie as tie
+
+whole-requires : tie.Need-whole-requires
+whole-requires c κs =
+    let a = c .before .before .before .args in
+    (search needs, let q : a .at + 6 - (a .at + 1) ≡ 5 = omega arith in rw q (omega arith))
+
+returns : tie.Need-returns
+returns c = rw (eq-eqb _ 32 (c .before .if1 .taken)) (c .whole .ensures)
+
+returns-2 : tie.Need-returns-2
+returns-2 c = rw (ne-eqb _ 32 (c .if1 .left))
+
+pub group-spec : {M : Type 1} → statement M
+group-spec =
+    tie.close
+    (tie.spec (λ c. search needs) (λ c. search needs) (λ c. search needs) whole-requires returns returns-2)
