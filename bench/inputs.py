@@ -3,18 +3,17 @@
 
     python3 bench/inputs.py ORACLE OUT BESIDE      ORACLE is target/oracle/oracle, the judge; the two folders are made anew
 
-OUT gets the list that is asked for, BESIDE a case of no buses. A drawn text is that of the first seed at which the altered Rust's counters show what the input is for.
+OUT gets the list that is asked for, BESIDE a case of no buses. A drawn text is that of the first seed at which the altered Rust's counters show what
+the input is for.
 """
-import glob
 import os
 import random
 import shutil
 import sys
 
-ROOT = os.path.join(os.path.dirname(os.path.abspath(__file__)), "..")
-sys.path.insert(0, os.path.join(ROOT, "oracle"))
-import cases  # noqa: E402
-import families as f  # noqa: E402
+sys.path.insert(0, os.path.join(os.path.dirname(os.path.abspath(__file__)), "..", "oracle"))
+import cases
+import families as f
 
 
 def flat(rng):
@@ -63,31 +62,31 @@ DRAWN = {
 }
 
 
-def written(folder):
+def write(folder, texts):
+    """The folder anew, with these texts."""
     shutil.rmtree(folder, ignore_errors=True)
     os.makedirs(folder)
-    return lambda name, text: open(os.path.join(folder, name + ".case"), "wb").write(text)
+    for name, text in texts.items():
+        with open(os.path.join(folder, name + ".case"), "wb") as out:
+            out.write(text)
 
 
-def draw(oracle, family, wanted):
+def draw(oracle, name):
+    family, wanted = DRAWN[name]
     for seed in range(10000):
         text = family(random.Random(seed))
         (answer,), (met,) = cases.answers(oracle, [text])
         if wanted(text, answer, met):
             return text
-    sys.exit("no seed fits")
+    sys.exit(f"no seed fits {name}")
 
 
 def main():
     if len(sys.argv) != 4:
         sys.exit(__doc__)
     oracle, out, beside = sys.argv[1:]
-    put = written(out)
-    for path in glob.glob(os.path.join(ROOT, "cases", "*.case")):
-        shutil.copy(path, out)
-    for name, (family, wanted) in DRAWN.items():
-        put(name, draw(oracle, family, wanted))
-    written(beside)("nobus", f.Case("F", [], [], [], [], []).text())
+    write(out, {**cases.samples(), **{name: draw(oracle, name) for name in DRAWN}})
+    write(beside, {"nobus": f.join("F", [b""] * 5)})
 
 
 main()

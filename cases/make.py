@@ -11,7 +11,7 @@ import sys
 HERE = os.path.dirname(os.path.abspath(__file__))
 sys.path.insert(0, os.path.join(HERE, "..", "oracle"))
 import cases
-from families import Case
+from families import Case, listing
 
 # The published voltages: magnitude and degrees, bus by bus.
 PUBLISHED = {
@@ -33,9 +33,9 @@ def admittances(n, branches, shunts):
     return [[i, k, v.real, v.imag] for (i, k), v in y.items()]
 
 
-def case(start, buses, gens, branches, shunts, digits=12):
-    """A case whose bus 0 is the slack at angle 0."""
-    return Case(start, buses, [[0, 0]], gens, [[f, t] for f, t, *_ in branches], admittances(len(buses), branches, shunts), digits)
+def case(start, buses, gens, branches, shunts):
+    """A case whose bus 0 is the slack at angle 0, with twelve decimals."""
+    return Case(start, buses, [[0, 0]], gens, [[f, t] for f, t, *_ in branches], admittances(len(buses), branches, shunts), 12)
 
 
 def load(p, q):
@@ -44,11 +44,6 @@ def load(p, q):
 
 def generator(vm, pg, p=0, q=0):
     return ["V", vm, p, q, pg, 0, "?", "?"]
-
-
-def listing():
-    """The paper's listing: one bus with a shunt."""
-    return Case("F", [["Q", 1, 0, 0, 0, 0, "?", "?"]], [[0, 0]], [], [], [[0, 0, 2, -8]])
 
 
 def wscc9():

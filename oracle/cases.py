@@ -4,20 +4,60 @@
     python3 oracle/cases.py ORACLE SEED COUNT      prints how many texts fall in each class; ends with an error if a class is empty
     python3 oracle/cases.py ORACLE late            prints the seeds for LATE of families.py
 """
+import glob
+import math
+import os
 import random
+import re
 import struct
 import subprocess
 import sys
+from collections import Counter
 
 import families as f
+from exact import double
 
 # One round of texts. The families of large texts share a slot.
 ROUND = [f.plain, f.plain, f.heavy, f.islands, f.no_slack, f.slacks, f.limits, f.limits, f.crossed, f.cascade, f.edge, f.exact, f.zeros,
          f.stored, f.diagonals, f.sparse, f.shuffled, f.wild, f.distant, f.far_angle, f.far_angle, f.late, f.late, f.late, f.late, f.no_bus,
          f.length, f.trailer, f.alphabet, f.over, f.form, f.field, f.beyond, f.struck]
 LARGE = [f.full, f.overflow, f.overflow, f.long, f.overflow, f.overflow, f.overflow, f.overflow]
-MET = ("starts rounds steps halved unfit singular stuck at_max at_min back unsettled nan fifty nan_step inf_step nan_trial inf_trial far twelfth "
-       "zero equal q_within v_within kept").split()
+
+# The classes of runs that one counter of the altered Rust tells.
+COUNTED = {
+    "a limit binds high": "at_max",
+    "a limit binds low": "at_min",
+    "a power past its limit within the tolerance": "q_within",
+    "a bus returns": "back",
+    "a voltage past the held one within the tolerance": "v_within",
+    "a second return is not given": "kept",
+    "rounds never settle": "unsettled",
+    "a shortened step": "halved",
+    "a trial of the same mismatch": "equal",
+    "an unfit trial": "unfit",
+    "a trial with magnitude 0": "zero",
+    "no length helps": "stuck",
+    "a singular matrix": "singular",
+    "a fiftieth step": "fifty",
+    "an angle beyond 1024 radians": "far",
+    "a NaN mismatch": "nan",
+    "a NaN direction": "nan_step",
+    "a NaN trial": "nan_trial",
+    "an infinite direction": "inf_step",
+    "an infinite trial": "inf_trial",
+}
+SAMPLES = os.path.join(os.path.dirname(os.path.abspath(__file__)), "..", "cases")
+
+
+def samples():
+    """The texts of cases/ by name, in sorted order."""
+    found = {}
+    for path in sorted(glob.glob(os.path.join(SAMPLES, "*.case"))):
+        with open(path, "rb") as file:
+            found[os.path.basename(path)[:-len(".case")]] = file.read()
+    if not found:
+        sys.exit("no sample case in cases/")
+    return found
 
 
 def texts(seed, count):
@@ -32,20 +72,37 @@ def texts(seed, count):
 
 
 def answers(oracle, batch):
-    """What the altered Rust answers each text, and what each run met."""
+    """What the altered Rust answers each text, and its counters of each run."""
     data = b"".join(struct.pack(">I", len(t)) + t for t in batch)
-    run = subprocess.run([oracle, "met"], input=data, capture_output=True, check=True)
+    run = subprocess.run([oracle], input=data, capture_output=True, check=True)
     out, at = [], 0
     while at < len(run.stdout):
         n = struct.unpack(">I", run.stdout[at:at + 4])[0]
         out.append(run.stdout[at + 4:at + 4 + n])
         at += 4 + n
-    return out, [dict(zip(MET, map(int, line.split()))) for line in run.stderr.decode().splitlines()]
+    met = [{name: int(n) for name, n in re.findall(r"(\w+): (\d+)", line)} for line in run.stderr.decode().splitlines()]
+    if at != len(run.stdout) or not len(out) == len(met) == len(batch):
+        sys.exit(f"{oracle}: {len(batch)} texts, {len(out)} answers (the last {at - len(run.stdout)} bytes short), {len(met)} lines of counters")
+    return out, met
+
+
+def solution(answer):
+    """Iterations, kinds and the columns vm, va, p and q of a solved answer; None of a refusal."""
+    if not answer.startswith(b"ok "):
+        return None
+    first, *rows = [line.split() for line in answer.decode().splitlines()]
+    real = lambda x: math.nan if x == "nan" else double(int(x, 16))
+    return int(first[1]), [r[1] for r in rows], [[real(r[k]) for r in rows] for k in (2, 3, 4, 5)]
+
+
+def starts(text):
+    """The six numbers of a well-formed trailer."""
+    return [int(x) for x in text[-38:].split()[1:]]
 
 
 def tables(text):
     """The rows of the five sections of a well-formed text."""
-    places = [int(x) for x in text[-38:].split()[1:]]
+    places = starts(text)
     return [[line.split()[1:] for line in text[a:b].decode().splitlines()] for a, b in zip(places, places[1:])]
 
 
@@ -65,6 +122,7 @@ def network_classes(text):
     slacks = {int(r[0]) for r in slack_rows}
     held = {label[b] for b in slacks}
     diagonals = [r[0] for r in triplets if r[0] == r[1]]
+    stored = buses if text[-38:-37] == b"C" else []
     return {
         **{f"{k} buses": n == k for k in range(33)},
         "a loop of lines": len(lines) > n - len(set(label)),
@@ -72,9 +130,9 @@ def network_classes(text):
         "several slacks in one island": len(slacks) > len(held),
         "an island without slack": len(held) < len(set(label)),
         "two diagonals on a bus": len(diagonals) > len(set(diagonals)),
-        "all tables full": [len(t) for t in (buses, slack_rows, gens, lines, triplets)] == [32, 32, 32, 64, 256],
-        "a case start with ?": text[-38:-37] == b"C" and any("?" in r for r in buses),
-        "a case start with magnitude 0": text[-38:-37] == b"C" and any(r[6] == "0" for r in buses),
+        "all tables full": [len(t) for t in (buses, slack_rows, gens, lines, triplets)] == list(f.SIZES.values()),
+        "a case start with ?": any("?" in r for r in stored),
+        "a case start with magnitude 0": any(r[6] == "0" for r in stored),
     }
 
 
@@ -85,29 +143,10 @@ def run_classes(text, answer, m):
     return {
         "solved": ok,
         **{f"solved by start {s}": winner == s for s in ("F 1", "F 2", "F 3", "F 4", "F 5", "C 1", "C 2", "C 3", "C 4", "C 5", "C 6")},
-        "a limit binds high": m["at_max"] > 0,
-        "a limit binds low": m["at_min"] > 0,
-        "a power past its limit within the tolerance": m["q_within"] > 0,
-        "a bus returns": m["back"] > 0,
-        "a voltage past the held one within the tolerance": m["v_within"] > 0,
-        "a second return is not given": m["kept"] > 0,
+        **{name: m[counter] > 0 for name, counter in COUNTED.items()},
         "rounds settle in the twelfth": m["twelfth"] > m["unsettled"],
-        "rounds never settle": m["unsettled"] > 0,
-        "a shortened step": m["halved"] > 0,
-        "a trial of the same mismatch": m["equal"] > 0,
-        "an unfit trial": m["unfit"] > 0,
-        "a trial with magnitude 0": m["zero"] > 0,
-        "no length helps": m["stuck"] > 0,
-        "a singular matrix": m["singular"] > 0,
-        "a fiftieth step": m["fifty"] > 0,
         "solved by the fiftieth step": answer.startswith(b"ok 49 ") and m["fifty"] > 0,
-        "an angle beyond 1024 radians": m["far"] > 0,
-        "a NaN mismatch": m["nan"] > 0,
         "switching goes on after a NaN": m["nan"] > m["starts"],
-        "a NaN direction": m["nan_step"] > 0,
-        "a NaN trial": m["nan_trial"] > 0,
-        "an infinite direction": m["inf_step"] > 0,
-        "an infinite trial": m["inf_trial"] > 0,
         "solved after a NaN": ok and m["nan"] > 0,
         "solved with a NaN in the answer": ok and b"nan" in answer,
         "solved with -0 in the answer": ok and b" 8000000000000000" in answer,
@@ -123,20 +162,16 @@ def refusal_classes(text, answer):
     found = {f"refused {k}": number == b"%d" % k for k in (2, 3, 4, 5, 8)}
     found["refused 1, short"] = number == b"1" and len(text) < 38
     found["refused 1, long"] = number == b"1" and len(text) > 32768
-    for letter in "BRGLY":
-        found[f"refused 6 in {letter}"] = False
-    if number == b"6":
-        starts = [int(x) for x in text[-38:].split()[1:]]
-        section = max(i for i in range(5) if starts[i] <= int(place))
-        found["refused 6 in " + "BRGLY"[section]] = True
+    section = [letter for letter, start in zip(f.SIZES, starts(text)) if start <= int(place)][-1] if number == b"6" else ""
+    found.update({f"refused 6 in {letter}": letter == section for letter in f.SIZES})
     return found
 
 
-def classes(batch, out, notes):
-    """How many texts fall in each class."""
-    none = b"F" + b" 00000" * 6 + b"\n"
-    count = dict.fromkeys({**network_classes(none), **run_classes(none, b"", dict.fromkeys(MET, 0)), **refusal_classes(b"", b"refused 1 0")}, 0)
-    for t, a, m in zip(batch, out, notes):
+def classes(batch, out, met):
+    """How many texts fall in each class, those with none too."""
+    nothing = f.join("F", [b""] * 5)
+    count = dict.fromkeys({**network_classes(nothing), **run_classes(nothing, b"", Counter()), **refusal_classes(b"", b"refused 1 0")}, 0)
+    for t, a, m in zip(batch, out, met):
         found = {**network_classes(t), **run_classes(t, a, m)} if m["starts"] else refusal_classes(t, a)
         for name in found:
             count[name] += found[name]
@@ -159,9 +194,9 @@ def check(count):
         sys.exit("empty: " + ", ".join(empty))
 
 
-def print_late(oracle, wanted=12):
-    """The first rough cases that each flat start after the first solves, and still does when loads move a little."""
-    found, seed = {k: [] for k in (2, 3, 4, 5)}, 0
+def print_late(oracle):
+    """The first twelve rough cases that each flat start after the first solves, and still does when loads move a little."""
+    found, seed, wanted = {k: [] for k in (2, 3, 4, 5)}, 0, 12
     while min(map(len, found.values())) < wanted:
         near = []
         for shift in (0, 1e-4, -1e-4):
@@ -170,8 +205,7 @@ def print_late(oracle, wanted=12):
             for b in c.buses:
                 b[2] += shift
             near.append(c.text())
-        out, notes = answers(oracle, near)
-        won = {m["starts"] if a.startswith(b"ok") else 0 for a, m in zip(out, notes)}
+        won = {m["starts"] if a.startswith(b"ok") else 0 for a, m in zip(*answers(oracle, near))}
         if len(won) == 1 and len(found.get(min(won), range(wanted))) < wanted:
             found[min(won)].append(seed)
         seed += 1

@@ -2,7 +2,8 @@
 """Runs freshly drawn texts through the solve program and the altered Rust, side by side, and prints every mismatch.
 
     python3 oracle/compare.py SOLVE ORACLE SEED COUNT
-SOLVE reads a case text on standard input and prints the answer. Texts that differ are saved under target/mismatches. Exit 1 on a mismatch.
+SOLVE reads a case text on standard input and prints the answer; COUNT is 1 or more. Texts that differ are saved under target/mismatches.
+Exit 1 on a mismatch.
 """
 import os
 import subprocess
@@ -36,7 +37,7 @@ def save(seed, place, text):
 
 
 def main():
-    if len(sys.argv) != 5:
+    if len(sys.argv) != 5 or int(sys.argv[4]) < 1:
         sys.exit(__doc__)
     program, oracle, seed, count = os.path.abspath(sys.argv[1]), sys.argv[2], int(sys.argv[3]), int(sys.argv[4])
     texts = cases.texts(seed, count)

@@ -3,25 +3,12 @@
 
     python3 oracle/distances.py ORACLE OTHER SEED COUNT      OTHER is oracle_platform or oracle_num_complex of make_oracle.py
 """
-import glob
 import math
-import os
-import struct
 import sys
 
 import cases
 
-SAMPLES = os.path.join(os.path.dirname(os.path.abspath(__file__)), "..", "cases")
 COLUMNS = ("vm", "va", "p", "q")
-
-
-def read(answer):
-    """Iterations, kinds and the four columns of a solved answer; None for a refusal."""
-    if not answer.startswith(b"ok"):
-        return None
-    first, *rows = [line.split() for line in answer.decode().splitlines()]
-    real = lambda x: math.nan if x == "nan" else struct.unpack(">d", bytes.fromhex(x))[0]
-    return int(first[1]), [r[1] for r in rows], [[real(r[k]) for r in rows] for k in (2, 3, 4, 5)]
 
 
 def apart(a, b, turns=False):
@@ -49,12 +36,11 @@ def largest(pairs, turns=False):
 
 
 def samples(one, other):
-    paths = sorted(glob.glob(os.path.join(SAMPLES, "*.case")))
-    texts = [open(path, "rb").read() for path in paths]
-    for path, x, y in zip(paths, cases.answers(one, texts)[0], cases.answers(other, texts)[0]):
-        a, b = read(x), read(y)
+    texts = cases.samples()
+    for name, x, y in zip(texts, cases.answers(one, texts.values())[0], cases.answers(other, texts.values())[0]):
+        a, b = cases.solution(x), cases.solution(y)
         kinds = "the same" if a[1] == b[1] else "DIFFERENT"
-        print(f"{os.path.basename(path)}: {shown(differences(a, b))}; kinds {kinds}; iterations {a[0]} and {b[0]}")
+        print(f"{name}.case: {shown(differences(a, b))}; kinds {kinds}; iterations {a[0]} and {b[0]}")
 
 
 def drawn(one, other, seed, count):
@@ -62,7 +48,7 @@ def drawn(one, other, seed, count):
     (x, met_x), (y, met_y) = cases.answers(one, texts), cases.answers(other, texts)
     near, beyond_path, other_path, single = [], [], [], {}
     for i in range(count):
-        a, b = read(x[i]), read(y[i])
+        a, b = cases.solution(x[i]), cases.solution(y[i])
         m, n = met_x[i], met_y[i]
         beyond = m["far"] > 0  # there 01's sine is NaN and the platform's is not
         if a and b:

@@ -170,26 +170,18 @@ pub fn answer(text: &[u8]) -> String {
     }
 }
 
-// Texts come as a batch: each its length in four big-endian bytes, then its bytes. With the argument `met`, a line of what each run met follows
-// its answer on standard error.
+// Texts come as a batch: each its length in four big-endian bytes, then its bytes. Answers go to standard output in the same form, and a line of what
+// each run met to standard error.
 fn main() {
     let mut input = Vec::new();
     std::io::stdin().read_to_end(&mut input).unwrap();
-    let counting = std::env::args().nth(1).is_some_and(|a| a == "met");
     let (mut at, mut out, mut notes) = (0, Vec::new(), String::new());
-    while at + 4 <= input.len() {
+    while at < input.len() {
         let n = u32::from_be_bytes(input[at..at + 4].try_into().unwrap()) as usize;
         let text = &input[at + 4..at + 4 + n];
         MET.with(|c| c.set(Met::default()));
         let a = answer(text);
-        if counting {
-            let m = MET.with(Cell::get);
-            let all = [
-                m.starts, m.rounds, m.steps, m.halved, m.unfit, m.singular, m.stuck, m.at_max, m.at_min, m.back, m.unsettled, m.nan, m.fifty, m.nan_step,
-                m.inf_step, m.nan_trial, m.inf_trial, m.far, m.twelfth, m.zero, m.equal, m.q_within, m.v_within, m.kept,
-            ];
-            notes += &(all.map(|k| k.to_string()).join(" ") + "\n");
-        }
+        notes += &format!("{:?}\n", MET.with(Cell::get));
         out.extend_from_slice(&(a.len() as u32).to_be_bytes());
         out.extend_from_slice(a.as_bytes());
         at += 4 + n;

@@ -3,6 +3,10 @@
 A family is a function of a random source that gives a Case or a text. oracle/cases.py draws from them.
 """
 import random
+from itertools import accumulate
+
+# The sections in their order, and how many rows each may have.
+SIZES = {"B": 32, "R": 32, "G": 32, "L": 64, "Y": 256}
 
 
 class Case:
@@ -12,8 +16,8 @@ class Case:
         self.start, self.buses, self.slacks, self.gens, self.lines, self.triplets, self.digits = start, buses, slacks, gens, lines, triplets, digits
 
     def sections(self):
-        return ["".join(" ".join([letter, *(cell(x, self.digits) for x in row)]) + "\n" for row in rows)
-                for letter, rows in zip("BRGLY", (self.buses, self.slacks, self.gens, self.lines, self.triplets))]
+        return ["".join(" ".join([letter, *(cell(x, self.digits) for x in row)]) + "\n" for row in rows).encode()
+                for letter, rows in zip(SIZES, (self.buses, self.slacks, self.gens, self.lines, self.triplets))]
 
     def text(self):
         return join(self.start, self.sections())
@@ -24,17 +28,22 @@ def cell(x, digits):
     if not isinstance(x, float):
         return str(x)
     s = f"{x:.{digits}f}".rstrip("0").rstrip(".")
-    return "0" if s in ("", "-0") else s
+    return "0" if s == "-0" else s
 
 
-def join(start, sections):
+def trailed(body, starts, flag="F"):
+    """A body behind which a trailer names these starts."""
+    return body + (flag + "".join(f" {n:05d}" for n in starts) + "\n").encode()
+
+
+def join(flag, sections):
     """The text of five sections, with its trailer."""
-    out, places = "", []
-    for s in sections:
-        places.append(len(out.encode()))
-        out += s
-    places.append(len(out.encode()))
-    return (out + start + "".join(f" {p:05d}" for p in places) + "\n").encode()
+    return trailed(b"".join(sections), accumulate(map(len, sections), initial=0), flag)
+
+
+def listing():
+    """The paper's listing: one bus with a shunt."""
+    return Case("F", [["Q", 1, 0, 0, 0, 0, "?", "?"]], [[0, 0]], [], [], [[0, 0, 2, -8]])
 
 
 # ---- networks
@@ -295,11 +304,12 @@ def late(rng):
 
 def full(rng):
     """Every table full."""
-    c = network(rng, [32], rng.uniform(0.3, 0.8))
-    c.slacks = [list(c.slacks[0]) for _ in range(32)]
-    c.gens += [[rng.randrange(32), -0.5, 0.5] for _ in range(32 - len(c.gens))]
-    c.lines += [list(c.lines[0]) for _ in range(64 - len(c.lines))]
-    c.triplets += [[*rng.sample(range(32), 2), 0, 0] for _ in range(256 - len(c.triplets))]
+    n = SIZES["B"]
+    c = network(rng, [n], rng.uniform(0.3, 0.8))
+    c.slacks = [list(c.slacks[0]) for _ in range(SIZES["R"])]
+    c.gens += [[rng.randrange(n), -0.5, 0.5] for _ in range(SIZES["G"] - len(c.gens))]
+    c.lines += [list(c.lines[0]) for _ in range(SIZES["L"] - len(c.lines))]
+    c.triplets += [[*rng.sample(range(n), 2), 0, 0] for _ in range(SIZES["Y"] - len(c.triplets))]
     return c
 
 
@@ -324,7 +334,7 @@ def long(rng):
     """The longest text that is not too long, and longer ones."""
     c = good(rng)
     s = c.sections()
-    s[4] += "0" * (rng.choice([32768, 32769, 32769, 32800]) - len(c.text()))
+    s[4] += b"0" * (rng.choice([32768, 32769, 32769, 32800]) - len(c.text()))
     return join(c.start, s)
 
 
@@ -341,16 +351,16 @@ def alphabet(rng):
     s = c.sections()
     i = rng.choice([i for i in range(5) if s[i]])
     at = rng.randrange(len(s[i]))
-    s[i] = s[i][:at] + rng.choice(["\u2212", "\u2013", "\t", "\r", "e", "+", ",", "b", "\0", "S", "_"]) + s[i][at + rng.randrange(2):]
+    s[i] = s[i][:at] + rng.choice(["\u2212", "\u2013", "\t", "\r", "e", "+", ",", "b", "\0", "S", "_"]).encode() + s[i][at + rng.randrange(2):]
     return join(c.start, s)
 
 
 def over(rng):
     """A row over the size of a table, at times a wrong one."""
-    c = Case("F", [["Q", 1, 0, 0, 0, 0, "?", "?"]], [[0, 0]], [], [], [[0, 0, 2, -8]])
-    rows, row, size = rng.choice([(c.buses, ["Q", 1, 0, 0, 0, 0, 1, 0], 32), (c.slacks, [0, 0], 32), (c.gens, [0, -1, 1], 32), (c.lines, [0, 0], 64),
-                                  (c.triplets, [0, 0, 0, 0], 256)])
-    rows += [row] * (size - len(rows))
+    c = listing()
+    letter, rows, row = rng.choice([("B", c.buses, ["Q", 1, 0, 0, 0, 0, 1, 0]), ("R", c.slacks, [0, 0]), ("G", c.gens, [0, -1, 1]),
+                                    ("L", c.lines, [0, 0]), ("Y", c.triplets, [0, 0, 0, 0])])
+    rows += [row] * (SIZES[letter] - len(rows))
     rows.append(rng.choice([row, row + [0], [""]]))
     return c
 
@@ -363,9 +373,9 @@ def form(rng):
     lines = s[i].splitlines(keepends=True)
     k = rng.randrange(len(lines))
     x = lines[k]
-    lines[k] = rng.choice([x[1:], x.replace(" ", "  ", 1), x[:-1] + " \n", " " + x, x + "\n", x[:-1] + " 0\n", x.rsplit(" ", 1)[0] + "\n",
-                           rng.choice("BRGLYQ") + x[1:], x[:-1]])
-    s[i] = "".join(lines)
+    lines[k] = rng.choice([x[1:], x.replace(b" ", b"  ", 1), x[:-1] + b" \n", b" " + x, x + b"\n", x[:-1] + b" 0\n", x.rsplit(b" ", 1)[0] + b"\n",
+                           rng.choice("BRGLYQ").encode() + x[1:], x[:-1]])
+    s[i] = b"".join(lines)
     return join(c.start, s)
 
 

@@ -2,56 +2,26 @@
 """Points for crates/injection_vectors: injections and Jacobian, worked out here by 01 and by the expressions of `ac_injections` and `ac_jacobian`.
 
 Written from those alone, over lists and small classes: nothing of the Rattle code is used. A Python float is an IEEE double and each operation
-rounds once; the whole number k of the sine's rule is found by exact fractions.
+rounds once; sine and cosine are those of exact.py.
+
+    python3 oracle/injection_vectors.py      writes crates/injection_vectors/stdin and stdout; the same each time
 
 stdin, in words of eight bytes, the highest first: how many points; then for each the bus count n, the count of triplets m, the dim; the rows,
 the columns, the real parts and the imaginary parts of the triplets; magnitudes and angles; the columns of angles and magnitudes and the active
 and reactive rows of each bus (64 for none); then what has to come out: voltages, currents (real parts, then imaginary parts), p, q, and
 the matrix, dim rows of dim.
-
-  python3 oracle/injection_vectors.py
 """
+import functools
 import math
-import os
 import random
 import struct
-from fractions import Fraction
 
-HERE = os.path.join(os.path.dirname(os.path.abspath(__file__)), "..", "crates", "injection_vectors")
+import exact
+from exact import bits, double
+from vectors import write
+
 INF, NAN = math.inf, math.nan
 NONE = 64
-
-
-# ---- 01, "Sine and cosine"
-
-def of_bits(w):
-    return struct.unpack(">d", struct.pack(">Q", w))[0]
-
-
-def coefficients(ns):
-    return [(-1.0) ** (i + 1) * (1.0 / float(math.factorial(n))) for i, n in enumerate(ns)]
-
-
-SINE, COSINE = coefficients(range(3, 16, 2)), coefficients(range(2, 17, 2))
-
-
-def summed(z, cs):
-    total = cs[-1]
-    for c in reversed(cs[:-1]):
-        total = c + z * total
-    return total
-
-
-def sin_cos(x):
-    if x != x or abs(x) > 1024.0:
-        return NAN, NAN
-    k = math.floor(Fraction(x * of_bits(0x3FE45F306DC9C883)) + Fraction(1, 2))
-    f = float(k)
-    r = (x - f * of_bits(0x3FF921FB54400000)) - f * of_bits(0x3DD0B4611A626331)
-    z = r * r
-    s = r + (r * z) * summed(z, SINE)
-    c = 1.0 + z * summed(z, COSINE)
-    return [(s, c), (c, -s), (-s, -c), (-c, s)][k % 4]
 
 
 # ---- complex numbers: Python's own multiply otherwise than (ac - bd, ad + bc) where a part isn't finite
@@ -79,8 +49,14 @@ class Number:
 J = Number(0.0, 1.0)
 
 
+@functools.cache
+def sin_cos(w):
+    """Sine and cosine of an angle, given by its bits: 0.0 and -0.0 are two angles."""
+    return [double(exact.to_bits(x)) for x in exact.sin_cos(exact.of_bits(w))]
+
+
 def polar(r, t):
-    s, c = sin_cos(t)
+    s, c = sin_cos(bits(t))
     return Number(r * c, r * s)
 
 
@@ -202,7 +178,7 @@ def triplets(rng, n, m, draw, diagonal):
 
 def point(rng, n, m, kind, diagonal=1, kinds="SVQ"):
     y, r, t = CLASSES[kind]
-    ybus = triplets(rng, n, m if n else 0, y, diagonal)
+    ybus = triplets(rng, n, m, y, diagonal)
     return ybus, [r(rng) for _ in range(n)], [t(rng) for _ in range(n)], layout_of([rng.choice(kinds) for _ in range(n)])
 
 
@@ -234,10 +210,6 @@ def points(rng):
     yield point(rng, 20, 70, "special", 1, "QQV")
 
 
-def bits(x):
-    return struct.pack(">d", x) if x == x else struct.pack(">Q", 0x7FF8000000000000)
-
-
 def told(ybus, vm, va, place):
     layout, dim = place
     v, i_bus, s = ac_injections(ybus, vm, va)
@@ -245,23 +217,19 @@ def told(ybus, vm, va, place):
     numbers = [[i for i, _, _ in ybus], [k for _, k, _ in ybus]]
     doubles = [[y.re for _, _, y in ybus], [y.im for _, _, y in ybus], vm, va]
     out = [[x.re for x in v], [x.im for x in v], [x.re for x in i_bus], [x.im for x in i_bus], [x.re for x in s], [x.im for x in s]]
-    words = struct.pack(">3Q", len(vm), len(ybus), dim)
-    words += b"".join(struct.pack(">Q", x) for xs in numbers for x in xs)
-    words += b"".join(bits(x) for xs in doubles for x in xs)
-    words += b"".join(struct.pack(">Q", x) for xs in layout for x in xs)
-    return words + b"".join(bits(x) for xs in out + rows for x in xs)
+    words = [len(vm), len(ybus), dim] + [x for xs in numbers for x in xs]
+    words += [bits(x) for xs in doubles for x in xs]
+    words += [x for xs in layout for x in xs]
+    words += [bits(x) for xs in out + rows for x in xs]
+    return struct.pack(f">{len(words)}Q", *words)
 
 
 def main():
     rng = random.Random(20260302)
     out = [told(*p) for p in points(rng)]
     data = struct.pack(">Q", len(out)) + b"".join(out)
-    with open(os.path.join(HERE, "stdin"), "wb") as f:
-        f.write(data)
-    with open(os.path.join(HERE, "stdout"), "w") as f:
-        f.write(f"points {len(out)}, differing 0\n")
+    write("injection_vectors", data, f"points {len(out)}, differing 0\n")
     print(f"{len(out)} points, {len(data)} bytes")
 
 
-if __name__ == "__main__":
-    main()
+main()

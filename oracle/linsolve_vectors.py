@@ -2,19 +2,18 @@
 """Systems for crates/linsolve_vectors, solved here by 01's "Linear solve".
 
 Written from the rule alone, over lists of rows: nothing of the Rattle code is used. A Python float is an IEEE double and each operation rounds once.
-Writes the program's input and the line that it has to print.
+
+    python3 oracle/linsolve_vectors.py      writes crates/linsolve_vectors/stdin and stdout; the same each time
 
 stdin, in words of eight bytes, the highest first: how many systems; then for each its dim, its answer (64 for solved, else the column
 without a pivot), its right sides and its entries row by row, and the same places as the solve has to leave them.
-
-  python3 oracle/linsolve_vectors.py
 """
 import math
-import os
 import random
 import struct
 
-HERE = os.path.join(os.path.dirname(os.path.abspath(__file__)), "..", "crates", "linsolve_vectors")
+from vectors import write
+
 SOLVED = 64
 INF, NAN = math.inf, math.nan
 TINY = 5e-324
@@ -125,8 +124,8 @@ def systems(rng):
         yield system(rng, 24, entry)
 
 
-def bits(rng, x):
-    """A NaN goes in under any of its patterns."""
+def packed(rng, x):
+    """A double in eight bytes. A NaN goes in under any of its patterns."""
     if x == x:
         return struct.pack(">d", x)
     sign = rng.randrange(2) << 63
@@ -134,7 +133,7 @@ def bits(rng, x):
 
 
 def places(rng, rows, sides):
-    return b"".join(bits(rng, x) for x in sides + [x for row in rows for x in row])
+    return b"".join(packed(rng, x) for x in sides + [x for row in rows for x in row])
 
 
 def main():
@@ -145,12 +144,8 @@ def main():
         answer = solve(rows, sides)
         told[answer] = told.get(answer, 0) + 1
         out.append(struct.pack(">QQ", len(rows), answer) + given + places(rng, rows, sides))
-    with open(os.path.join(HERE, "stdin"), "wb") as f:
-        f.write(struct.pack(">Q", len(out)) + b"".join(out))
-    with open(os.path.join(HERE, "stdout"), "w") as f:
-        f.write(f"systems {len(out)}, differing 0\n")
+    write("linsolve_vectors", struct.pack(">Q", len(out)) + b"".join(out), f"systems {len(out)}, differing 0\n")
     print(f"{len(out)} systems, {told.get(SOLVED, 0)} solved; singular by column", sorted((c, n) for c, n in told.items() if c != SOLVED))
 
 
-if __name__ == "__main__":
-    main()
+main()

@@ -33,7 +33,7 @@ COUNTERS = [
     ("counts rounds and twelfth ones", "    for _ in 0..MAX_OUTER {\n", "    for round in 0..MAX_OUTER {\n        met(|m| { m.rounds += 1; m.twelfth += usize::from(round == MAX_OUTER - 1); });\n"),
     ("counts singular matrices", "            break; // singular Jacobian: stop at the best iterate so far", "            met(|m| m.singular += 1);\n            break; // singular Jacobian: stop at the best iterate so far"),
     ("counts unfit trials and those with a magnitude of 0", "any(|&x| x.is_nan()) {\n                alpha *= 0.5;\n                continue;", "any(|&x| x.is_nan()) {\n                met(|m| { m.unfit += 1; m.zero += usize::from(tvm.contains(&0.0)); });\n                alpha *= 0.5;\n                continue;"),
-    ("counts steps, shortened ones and fiftieth ones", "                accepted = true;\n", "                accepted = true;\n                met(|m| { m.steps += 1; m.halved += usize::from(alpha < 1.0); m.fifty += usize::from(it == MAX_ITERS - 1); });\n"),
+    ("counts shortened steps and fiftieth ones", "                accepted = true;\n", "                accepted = true;\n                met(|m| { m.halved += usize::from(alpha < 1.0); m.fifty += usize::from(it == MAX_ITERS - 1); });\n"),
     ("counts directions with a NaN and with an infinity", "        // Backtracking line search: accept", "        met(|m| { m.nan_step += usize::from(dx.iter().any(|x| x.is_nan())); m.inf_step += usize::from(dx.iter().any(|x| x.is_infinite())); });\n        // Backtracking line search: accept"),
     ("counts trials with a NaN, an infinite and an unchanged norm", "            let tres = inf_norm(&tr);\n", "            let tres = inf_norm(&tr);\n            met(|m| { m.nan_trial += usize::from(tres.is_nan()); m.inf_trial += usize::from(tres.is_infinite()); m.equal += usize::from(tres == residual); });\n"),
     ("counts steps that no length helped", "            break; // no descent direction reduced the mismatch: stop", "            met(|m| m.stuck += 1);\n            break; // no descent direction reduced the mismatch: stop"),
@@ -84,9 +84,11 @@ def rustc(source, out, *flags):
 
 def crate(crates, name, out, *flags):
     """Builds a crate of the folder as a library."""
-    source, = glob.glob(os.path.join(crates, f"{name}-[0-9]*", "src", "lib.rs"))
+    found = glob.glob(os.path.join(crates, f"{name}-[0-9]*", "src", "lib.rs"))
+    if len(found) != 1:
+        sys.exit(f"{len(found)} sources of {name} in {crates}")
     library = os.path.join(out, f"lib{name.replace('-', '_')}.rlib")
-    rustc(source, library, "--crate-name", name.replace("-", "_"), "--crate-type", "rlib", "--cap-lints", "allow", "--cfg", 'feature="std"', *flags)
+    rustc(found[0], library, "--crate-name", name.replace("-", "_"), "--crate-type", "rlib", "--cap-lints", "allow", "--cfg", 'feature="std"', *flags)
     return library
 
 

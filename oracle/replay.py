@@ -3,32 +3,29 @@
 
     python3 oracle/replay.py ORACLE OUT      OUT is crates/replay/data/texts
 A record is the text's length in two bytes, the answer's length in two bytes (higher byte first), the text, the answer. The answers are the altered
-Rust's. Prints the classes met; an empty one is an error.
+Rust's. Prints the classes met; an empty one is an error, and nothing is written.
 """
-import glob
-import os
 import struct
 import sys
 
 import cases
 
-ROOT = os.path.join(os.path.dirname(os.path.abspath(__file__)), "..")
 SEED, COUNT = 9, 1152
 
 
 def main():
     if len(sys.argv) != 3:
         sys.exit(__doc__)
-    samples = [open(path, "rb").read() for path in sorted(glob.glob(os.path.join(ROOT, "cases", "*.case")))]
+    samples = list(cases.samples().values())
     texts = samples + cases.texts(SEED, COUNT)
     answers, met = cases.answers(sys.argv[1], texts)
+    count = cases.classes(texts, answers, met)
+    cases.report(count)
+    cases.check(count)
     data = b"".join(struct.pack(">HH", len(t), len(a)) + t + a for t, a in zip(texts, answers))
     with open(sys.argv[2], "wb") as out:
         out.write(data)
     print(f"{len(samples)} samples and {COUNT} texts of seed {SEED}: {len(data)} bytes")
-    count = cases.classes(texts, answers, met)
-    cases.report(count)
-    cases.check(count)
 
 
 main()

@@ -5,15 +5,11 @@ use std::collections::HashMap;
 
 // ---- sine and cosine (01, "Sine and cosine"), or the platform's with --cfg platform_sine
 
-#[cfg(platform_sine)]
 pub fn sin_cos(x: f64) -> (f64, f64) {
     met(|m| m.far += usize::from(x.abs() > 1024.0));
-    x.sin_cos()
-}
-
-#[cfg(not(platform_sine))]
-pub fn sin_cos(x: f64) -> (f64, f64) {
-    met(|m| m.far += usize::from(x.abs() > 1024.0));
+    if cfg!(platform_sine) {
+        return x.sin_cos();
+    }
     if x.is_nan() || x.abs() > 1024.0 {
         return (f64::NAN, f64::NAN);
     }
@@ -93,7 +89,7 @@ pub fn solve_sparse(dim: usize, entries: &[(usize, usize, f64)], rhs: &[f64]) ->
 
 // ---- the network's tables, with the triplets given
 
-#[derive(Clone, Debug, Default)]
+#[derive(Default)]
 pub struct AcNetwork {
     pub n: usize,
     pub k: usize,
@@ -127,13 +123,12 @@ pub struct AcPolar;
 
 impl Formulation for AcPolar {}
 
-// ---- what a run met, for counting classes of cases: observed, never read by the solver
+// ---- what a run met, for counting classes of cases: observed, never read by the solver. The driver prints it, and cases.py reads the names.
 
 #[derive(Clone, Copy, Debug, Default)]
 pub struct Met {
     pub starts: usize,
     pub rounds: usize,
-    pub steps: usize,
     pub halved: usize,
     pub unfit: usize,
     pub singular: usize,
