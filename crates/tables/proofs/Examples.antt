@@ -1,4 +1,4 @@
--- 01's listing, computed: one slack bus with the admittance 2 - 8j is solved at the first start. Assumes nothing.
+-- 01's listing, computed: one slack bus with the admittance 2 - 8j is solved at the first start. And a case without buses. Assumes nothing.
 use mathlib.Core.Bool.{Bool, true, cond}
 use mathlib.Core.Path.{_≡_, ap}
 use mathlib.Core.List.{List, [], _∷_}
@@ -20,11 +20,12 @@ use Rattle.newton.specs.Newton.{measuredOf, stepsFrom, newtonOf}
 use Rattle.moves.specs.Moves.{moveOf, movesOf, anyMove, pinned, lettersOf}
 use Rattle.qlim.specs.Rounds.{roundOf, roundsFrom, qlimOf}
 use Rattle.starts.specs.References.{angleOf, referencesOf}
-use Rattle.starts.specs.Starts.{flatOf}
+use Rattle.starts.specs.Starts.{caseOf, flatOf}
 use Rattle.pf_ac.specs.Network.{Network, network, acPfOf}
 use Rattle.pf_ac.specs.Search.{startOf, betterOf, tryOf, searchFrom, searchOf}
 use Rattle.tables.specs.Tables.{Outs, outs, answer, ok, allBelow, counted, roomy, numbered, writtenOf, zeros, ranOf, solveOf}
-use Rattle.pf_ac.specs.declared.AcStart.the-variants.{Flat}
+use Rattle.pf_ac.specs.declared.AcStart.{AcStart}
+use Rattle.pf_ac.specs.declared.AcStart.the-variants.{Flat, Case}
 
 abbrev pub listing : Network
 listing =
@@ -39,3 +40,13 @@ row o = outs (set (o .vm) 0 (double 1)) (set (o .va) 0 (double 0)) (set (o .p) 0
 pub listing-solved : (o : Outs) (w : List Float) → roomy listing o w ≡ true → solveOf listing o w ≡ answer (ok 0 (double 0)) (row o) (zeros w)
 unfolding normOf absolute sinCosOf groupOf lowest tally each labelsOf listed kindsOf angleCount magnitudeCount layoutOf sumAt hasGen limitsOf stores voltagesOf currentsTo phasorsOf injectedOf measuredOf stepsFrom newtonOf moveOf movesOf anyMove pinned lettersOf roundOf roundsFrom qlimOf angleOf referencesOf flatOf acPfOf startOf betterOf tryOf searchFrom searchOf both allBelow counted numbered writtenOf ranOf solveOf ofInt ofBits add sub mul div neg lt le isNan
 listing-solved o w h = ap (λ (r : Bool). cond r (ranOf listing o w (acPfOf listing w)) (answer (refused 9 []) o w)) h
+
+-- no bus, and so no row in any table
+abbrev empty : AcStart → Network
+empty start = network [] [] [] [] [] [] [] [] [] [] [] [] [] [] [] [] [] [] [] start
+
+-- "Zero buses is solved, with nothing in the answer": the columns stay as they were
+pub no-buses-solved : (start : AcStart) (o : Outs) (w : List Float) → roomy (empty start) o w ≡ true → solveOf (empty start) o w ≡ answer (ok 0 (double 0)) o (zeros w)
+unfolding normOf absolute sinCosOf groupOf lowest tally each labelsOf listed kindsOf angleCount magnitudeCount layoutOf sumAt hasGen limitsOf stores voltagesOf currentsTo phasorsOf injectedOf measuredOf stepsFrom newtonOf moveOf movesOf anyMove pinned lettersOf roundOf roundsFrom qlimOf angleOf referencesOf flatOf acPfOf startOf betterOf tryOf searchFrom searchOf both allBelow counted numbered writtenOf ranOf solveOf ofInt ofBits add sub mul div neg lt le isNan caseOf
+no-buses-solved Flat o w h = ap (λ (r : Bool). cond r (ranOf (empty Flat) o w (acPfOf (empty Flat) w)) (answer (refused 9 []) o w)) h
+no-buses-solved Case o w h = ap (λ (r : Bool). cond r (ranOf (empty Case) o w (acPfOf (empty Case) w)) (answer (refused 9 []) o w)) h

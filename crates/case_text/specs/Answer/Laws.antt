@@ -34,7 +34,7 @@ pub record Fitting (s : List ℕ) (m : Room) (c : Tables) : Type 0 where
   pub accepted : Accepted s (length s - 38) c
   pub fits : fitsOf c m ≡ true
 
-room-sound : (s : List ℕ) (m : Room) (v : Reading) → Where (Accepted s (length s - 38)) v → Where (Fitting s m) (withRoom v m)
+room-sound : (s : List ℕ) (m : Room) (v : Reading) → Where (Accepted s (length s - 38)) ⊥ v → Where (Fitting s m) Unit (withRoom v m)
 room-sound s m (Reading.Good c) h = ⊎-elim (λ q. rw q (record { accepted = h; fits = q })) (λ q. rw q tt) (decided (fitsOf c m))
 room-sound s m (Reading.Length at) h = tt
 room-sound s m (Reading.Trailer at) h = tt

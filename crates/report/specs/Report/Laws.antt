@@ -1,22 +1,22 @@
 -- What the report's parts are, and that its contract fixes everything. Assumes nothing.
 use Prim.Native.Nat.{ℕ, _-_, _≤_}
 use mathlib.Core.Path.{_≡_, refl, sym, ap, _∙_}
-use mathlib.Core.List.{List, []}
+use mathlib.Core.List.{List, [], _∷_}
 use mathlib.Core.Bool.{true, cond}
 use borrow.Author.Tests.{leb-true, le-leb, eq-eqb}
 use lib.Dec.{leb}
-use lib.ListN.{length, take}
+use lib.ListN.{length, take, length-replicate}
 use Rattle.real.specs.Tests.{and-left, and-right, both}
-use Rattle.real.specs.Paper.{refused}
-use lib.Seq.{length-take-le}
+use Rattle.real.specs.Paper.{refused, whole}
+use lib.Seq.{length-take-le, length-sets}
 use lib.Ieee.{Float}
 use Rattle.case_text.specs.declared.Tables.{Tables}
 use Rattle.case_text.specs.declared.Reading.{Reading}
 use Rattle.case_text.specs.declared.Reading.the-variants as Reading
 use Rattle.case_text.specs.Answer as Reader
 use Rattle.case_text.specs.Text.{textOf}
-use Rattle.case_text.specs.Text.Laws.{Accepted, Where, text-sound}
-use Rattle.case_text.specs.Answer.{Columns, columns, roomOf, fitsOf, withRoom, judgedOf, readOf}
+use Rattle.case_text.specs.Text.Laws.{Accepted, Where, text-sound, never-short}
+use Rattle.case_text.specs.Answer.{Columns, columns, roomOf, fitsOf, withRoom, judgedOf, writtenOf, settledOf, readOf}
 use Rattle.case_text.specs.Answer.Laws.{rows-most}
 use Rattle.pf_ac.specs.declared.AcStart.{AcStart}
 use Rattle.tables.specs.declared.Outcome.{Outcome}
@@ -24,8 +24,8 @@ use Rattle.pf_ac.specs.Network.Withheld.{Alike}
 use Rattle.tables.specs.Tables.Withheld.{solve-withheld}
 use Rattle.pf_ac.specs.Network.{acPfOf}
 use Rattle.tables.specs.Tables.{Outs, counted, roomy, numbered, Answer, answer, paperOf, ranOf, solveOf}
-use Rattle.lines.specs.Lines.{Wrote}
-use Rattle.report.specs.Report.{Report, startOf, networkBy, networkOf, blank, blanks, Few, Full, printedOf, answeredOf, solvedOf, reportOf, Reported}
+use Rattle.lines.specs.Lines.{refusedOf, Wrote}
+use Rattle.report.specs.Report.{Report, startOf, networkBy, networkOf, blank, blanks, Few, Full, printedOf, answeredOf, solvedOf, readingOf, reportOf, Reported}
 
 -- a part of a column that is long enough
 pub cut : {A : Type 0} (n m : ℕ) (l : List A) → n ≤ m → length l ≡ m → n ≡ length (take n l)
@@ -62,7 +62,7 @@ module _ (s : List ℕ) (w : List Float) (r : Reading) (read : Columns) (h : Rea
 pub reader-never-9 : (s : List ℕ) → judgedOf s (roomOf blank) ≡ textOf s
 reader-never-9 s = go (textOf s) (text-sound s)
   where
-    go : (v : Reading) → Where (Accepted s (length s - 38)) v → withRoom v (roomOf blank) ≡ v
+    go : (v : Reading) → Where (Accepted s (length s - 38)) ⊥ v → withRoom v (roomOf blank) ≡ v
     go (Reading.Good c) a = let f = rows-most s _ c a in rw (le-leb (c .buses) 32 (f .0), le-leb (c .slacks) 32 (f .1), le-leb (c .generators) 32 (f .2), le-leb (c .branches) 64 (f .3), le-leb (c .triplets) 256 (f .4)) refl
     go (Reading.Length at) a = refl
     go (Reading.Trailer at) a = refl
@@ -89,6 +89,37 @@ pub solve-never-7-9 : (c : Tables) (read : Columns) (w : List Float) → Few c �
     ≡ cond (numbered (networkOf c read)) (ranOf (networkOf c read) blanks w (acPfOf (networkOf c read) w)) (answer (refused 8 []) blanks w)
 unfolding solveOf
 solve-never-7-9 c read w f g h = rw (counted-read c read f g, roomy-blanks c read w f g h) refl
+
+full-read : (s : List ℕ) (t : ℕ) → Full (writtenOf s t blank)
+unfolding writtenOf
+full-read s t = simp (length-sets, length-replicate) (refl, refl, refl, refl, refl, refl, refl, refl, refl, refl, refl, refl, refl, refl, refl, refl, refl, refl, refl)
+
+-- what is printed of a text: its refusal, or the answer of its tables, which is refused 8, refused 10 or solved
+abbrev pub textReport : List ℕ → List Float → Reading → Report
+textReport s w (Reading.Good c) =
+    let t = networkOf c (writtenOf s (length s - 38) blank) in
+    answeredOf (c .buses) (cond (numbered t) (ranOf t blanks w (acPfOf t w)) (answer (refused 8 []) blanks w))
+textReport s w (Reading.Length at) = record { bytes = refusedOf 1 (whole at ∷ []); space = w }
+textReport s w (Reading.Trailer at) = record { bytes = refusedOf 2 (whole at ∷ []); space = w }
+textReport s w (Reading.Byte at) = record { bytes = refusedOf 3 (whole at ∷ []); space = w }
+textReport s w (Reading.Rows at) = record { bytes = refusedOf 6 (whole at ∷ []); space = w }
+textReport s w (Reading.Form at) = record { bytes = refusedOf 4 (whole at ∷ []); space = w }
+textReport s w (Reading.Field at) = record { bytes = refusedOf 5 (whole at ∷ []); space = w }
+textReport s w Reading.Short = record { bytes = refusedOf 9 []; space = w }
+
+pub report-never-7-9 : (s : List ℕ) (w : List Float) → leb 6144 (length w) ≡ true → (reportOf s w ≡ textReport s w (textOf s)) × (textOf s ≡ Reading.Short → ⊥)
+unfolding reportOf readOf solvedOf
+report-never-7-9 s w h = (rw (reader-never-9 s) (go (textOf s) (text-sound s)), never-short s)
+  where
+    go : (v : Reading) → Where (Accepted s (length s - 38)) ⊥ v → readingOf (settledOf s v blank) w ≡ textReport s w v
+    go (Reading.Good c) a = let read = writtenOf s (length s - 38) blank in ap (answeredOf (c .buses)) (solve-never-7-9 c read w (rows-most s _ c a) (full-read s (length s - 38)) h)
+    go (Reading.Length at) a = refl
+    go (Reading.Trailer at) a = refl
+    go (Reading.Byte at) a = refl
+    go (Reading.Rows at) a = refl
+    go (Reading.Form at) a = refl
+    go (Reading.Field at) a = refl
+    go Reading.Short a = refl
 
 -- ---- the contract fixes everything
 
