@@ -6,7 +6,8 @@ Written from the rule alone, over lists of rows: nothing of the Rattle code is u
     python3 oracle/linsolve_vectors.py      writes crates/linsolve_vectors/stdin and stdout; the same each time
 
 stdin, in words of eight bytes, the highest first: how many systems; then for each its dim, its answer (64 for solved, else the column
-without a pivot), its right sides and its entries row by row, and the same places as the solve has to leave them.
+without a pivot), its right sides and its entries row by row, and the same places as the solve has to leave them. Entries below the diagonal are left as
+they were when their column's pivot was found: each system is also solved with whole rows, as 01 says it, and must come out the same.
 """
 import math
 import random
@@ -28,8 +29,8 @@ def quotient(x, y):
     return math.copysign(INF, x) * math.copysign(1.0, y)
 
 
-def solve(rows, sides):
-    """Changes the rows and right sides in place. Answers the column without a pivot, or SOLVED."""
+def solve(rows, sides, whole=False):
+    """Changes the rows and right sides in place: whole rows, or only the columns that are read again. Answers the column without a pivot, or SOLVED."""
     dim = len(rows)
     for col in range(dim):
         best, pivot = 0.0, None
@@ -42,7 +43,8 @@ def solve(rows, sides):
         sides[col], sides[pivot] = sides[pivot], sides[col]
         for r in range(col + 1, dim):
             f = quotient(rows[r][col], rows[col][col])
-            rows[r][col:] = [x - f * y for x, y in zip(rows[r][col:], rows[col][col:])]
+            first = 0 if whole else col + 1
+            rows[r][first:] = [x - f * y for x, y in zip(rows[r][first:], rows[col][first:])]
             sides[r] = sides[r] - f * sides[col]
     for r in reversed(range(dim)):
         for c in range(r + 1, dim):
@@ -124,6 +126,23 @@ def systems(rng):
         yield system(rng, 24, entry)
 
 
+def same(x, y):
+    """One value: the same bits, or both NaN."""
+    return struct.pack(">d", x) == struct.pack(">d", y) or x != x and y != y
+
+
+def solved(rows, sides):
+    """The answer; rows and right sides are changed in place. Both ways must agree in all that is read again."""
+    whole, whole_sides = [list(row) for row in rows], list(sides)
+    answer = solve(rows, sides)
+    assert solve(whole, whole_sides, whole=True) == answer
+    assert all(map(same, sides, whole_sides))
+    done = len(rows) if answer == SOLVED else answer
+    for r, (row, other) in enumerate(zip(rows, whole)):
+        assert all(map(same, row[min(r, done):], other[min(r, done):]))
+    return answer
+
+
 def packed(rng, x):
     """A double in eight bytes. A NaN goes in under any of its patterns."""
     if x == x:
@@ -141,7 +160,7 @@ def main():
     out, told = [], {}
     for rows, sides in systems(rng):
         given = places(rng, rows, sides)
-        answer = solve(rows, sides)
+        answer = solved(rows, sides)
         told[answer] = told.get(answer, 0) + 1
         out.append(struct.pack(">QQ", len(rows), answer) + given + places(rng, rows, sides))
     write("linsolve_vectors", struct.pack(">Q", len(out)) + b"".join(out), f"systems {len(out)}, differing 0\n")

@@ -63,13 +63,14 @@ unfoldable pub subRow : ℕ → ℕ → ℕ → ℕ → Float → List Float →
 subRow zero c p r f w = less (4096 + r) (4096 + p) f w
 subRow (suc n) c p r f w = subRow n (c + 1) p r f (less (r * 64 + c) (p * 64 + c) f w)
 
--- "Each lower row takes f = its entry / pivot": the n rows from r on, under the pivot of row p
+-- "Each lower row takes f = its entry / pivot": the n rows from r on, under the pivot of row p. The pivot's column and those further left are read no more,
+-- and stay as they are
 unfoldable pub subLower : ℕ → ℕ → ℕ → ℕ → List Float → List Float
 unfolding subRow
 subLower zero r p dim w = w
 subLower (suc n) r p dim w =
     let f = div binary64 (at w (r * 64 + p)) (at w (p * 64 + p)) in
-    subLower n (r + 1) p dim (subRow (dim - p) p p r f w)
+    subLower n (r + 1) p dim (subRow (dim - (p + 1)) (p + 1) p r f w)
 
 -- what the solve answers, and the workspace that it leaves
 pub data Outcome : Type 0 where

@@ -78,6 +78,9 @@ fn swap_rows(w: &mut [f64], dim: usize, a: usize, b: usize)
     requires { ⌜ (4160 ≤ length (now w)) × (dim ≤ 64) × (a < dim) × (b < dim) ⌝ }
     ensures { λ _. ⌜ now (w .exit) ≡ swapRows dim 0 a b (now (w .entry)) ⌝ }
 {
+    if a == b {
+        return;
+    }
     let mut c = 0;
     while c < dim {
         swap(w, a * 64 + c, b * 64 + c);
@@ -86,12 +89,12 @@ fn swap_rows(w: &mut [f64], dim: usize, a: usize, b: usize)
     swap(w, 4096 + a, 4096 + b);
 }
 
-// Subtracts f times row p from row r, from column p on: further left row p is done with.
+// Subtracts f times row p from row r, after column p: that column and those further left are read no more.
 fn sub_row(w: &mut [f64], dim: usize, p: usize, r: usize, f: f64)
     requires { ⌜ (4160 ≤ length (now w)) × (dim ≤ 64) × (p < dim) × (r < dim) ⌝ }
-    ensures { λ _. ⌜ now (w .exit) ≡ subRow (dim - p) p p r f (now (w .entry)) ⌝ }
+    ensures { λ _. ⌜ now (w .exit) ≡ subRow (dim - (p + 1)) (p + 1) p r f (now (w .entry)) ⌝ }
 {
-    let mut c = p;
+    let mut c = p + 1;
     while c < dim {
         let i = r * 64 + c;
         let j = p * 64 + c;

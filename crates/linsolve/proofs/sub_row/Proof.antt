@@ -1,6 +1,6 @@
 -- `linsolve::sub_row` meets its contract. The invariant: what is left from here gives what all of it gives from the start. Assumes nothing.
 use mathlib.Core.Path.{_≡_, refl}
-use Prim.Native.Nat.{suc, _+_, _-_, _≤_}
+use Prim.Native.Nat.{suc, _+_, _-_, _≤_, _<_}
 use lib.ListN.{length, length-set}
 use Rattle.linsolve.specs.Linear.{subRow}
 use Rattle.linsolve.specs.Linear.Laws.{sub-turn, sub-end}
@@ -10,7 +10,7 @@ use Rattle.linsolve.proofs.sub_row.Tie as tie
 
 abbrev Inv-loop : tie.InvT-loop
 Inv-loop w₀ dim p r f c₀ w c =
-    (p ≤ c) × (c ≤ dim) × (length w ≡ length w₀) × (subRow (dim - c) c p r f w ≡ subRow (dim - p) p p r f w₀)
+    (p < c) × (c ≤ dim) × (length w ≡ length w₀) × (subRow (dim - c) c p r f w ≡ subRow (dim - (p + 1)) (p + 1) p r f w₀)
 
 abbrev μ-loop : tie.MeasureT-loop
 μ-loop w₀ dim p r f c₀ w c = dim - c
@@ -36,6 +36,7 @@ sub-row-spec =
     (tie.spec
     Inv-loop
     μ-loop
+    (λ c. omega arith)
     loop-holds
     (λ c. omega arith)
     (λ c. omega arith)

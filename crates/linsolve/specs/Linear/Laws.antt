@@ -10,7 +10,7 @@ use native.Mathlib.Nat.{eq-or-lt-of-le}
 use borrow.Author.Tests.{eq-eqb, ne-eqb, eqb-true, eqb-false}
 use lib.Dec.{eqb}
 use lib.ListN.{length, set, length-set}
-use lib.Seq.{getD-set-same, getD-set-other}
+use lib.Seq.{getD-set-same, getD-set-other, set-getD}
 use lib.Ieee.{Float, nan, binary64, sub, mul, div, lt}
 use Rattle.real.specs.Literals.{nought}
 use Rattle.real.specs.Real.{absolute}
@@ -68,6 +68,12 @@ pub swap-turn : (n c a b : ℕ) (w : List Float) → swapRows (suc n) c a b w �
 unfolding swapRows
 swap-turn n c a b w = refl
 
+-- a row exchanged with itself
+pub swap-self : (n c a : ℕ) (w : List Float) → swapRows n c a a w ≡ w
+unfolding swapRows
+swap-self zero c a w = rw (set-getD w (4096 + a) nan) (set-getD w (4096 + a) nan)
+swap-self (suc n) c a w = rw (set-getD w (a * 64 + c) nan, set-getD w (a * 64 + c) nan) (swap-self n (c + 1) a w)
+
 pub sub-end : (c p r : ℕ) (f : Float) (w : List Float) → subRow 0 c p r f w ≡ less (4096 + r) (4096 + p) f w
 unfolding subRow
 sub-end c p r f w = refl
@@ -82,7 +88,7 @@ lower-end r p dim w = refl
 
 pub lower-turn : (n r p dim : ℕ) (w : List Float) → subLower (suc n) r p dim w ≡ (
     let f = div binary64 (at w (r * 64 + p)) (at w (p * 64 + p)) in
-    subLower n (r + 1) p dim (subRow (dim - p) p p r f w))
+    subLower n (r + 1) p dim (subRow (dim - (p + 1)) (p + 1) p r f w))
 unfolding subLower
 lower-turn n r p dim w = refl
 
@@ -198,7 +204,7 @@ sub-kept (suc n) c p r dim f w h hr = kept-on (kept-entry dim r c _ w hr (omega 
 lower-kept : (n r p dim : ℕ) (w : List Float) → r + n ≤ dim → p < dim → Kept dim w (subLower n r p dim w)
 unfolding subLower
 lower-kept zero r p dim w h hp = kept-all dim w
-lower-kept (suc n) r p dim w h hp = kept-on (sub-kept (dim - p) p p r dim _ w (omega arith) (omega arith)) (lower-kept n (r + 1) p dim _ (omega arith) hp)
+lower-kept (suc n) r p dim w h hp = kept-on (sub-kept (dim - (p + 1)) (p + 1) p r dim _ w (omega arith) (omega arith)) (lower-kept n (r + 1) p dim _ (omega arith) hp)
 
 pub reduce-kept : (n col dim : ℕ) (w : List Float) → col + n ≤ dim → Kept dim w (spaceOf (reduce n col dim w))
 reduce-kept zero col dim w h = rw reduce-end (kept-all dim w)
