@@ -4,9 +4,9 @@ use mathlib.Core.List.{List, [], _∷_}
 use Prim.Native.Nat.{ℕ, zero, suc, _+_, _^_, _<_}
 use native.Mathlib.Omega.{arith}
 use native.Mathlib.Nat.{not-suc-le-zero, le-of-suc-le-suc, add-zero, add-suc, suc-add}
-use lib.IntN.{pos}
 use lib.Ieee.{Float, binary64, ofInt, ofBits, nan}
 use lib.ListN.{length, getD}
+use Rattle.real.specs.Literals.{double}
 
 -- the entries from i on are f i, f (i + 1), ..
 abbrev Agrees : (ℕ → Float) → ℕ → List Float → Type 0
@@ -40,12 +40,12 @@ powers =
     ∷ []
 
 abbrev power : ℕ → Float
-power k = ofInt binary64 (pos (10 ^ k))
+power k = double (10 ^ k)
 
 -- sixteen computations
 all-powers : Agrees power 0 powers
 unfolding ofBits ofInt
 all-powers = (refl, (refl, (refl, (refl, (refl, (refl, (refl, (refl, (refl, (refl, (refl, (refl, (refl, (refl, (refl, (refl, tt))))))))))))))))
 
-pub power-rule : (k : ℕ) → k < 16 → getD powers k nan ≡ ofInt binary64 (pos (10 ^ k))
+pub power-rule : (k : ℕ) → k < 16 → getD powers k nan ≡ double (10 ^ k)
 power-rule k h = from-table power powers 0 all-powers k h ∙ ap power (omega arith)

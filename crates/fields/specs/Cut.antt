@@ -8,7 +8,7 @@ use lib.Dec.{eqb}
 use lib.ListN.{length}
 use lib.Seq.{slice}
 
-abbrev pub empty : List ℕ → Bool
+abbrev pub empty : {A : Type 0} → List A → Bool
 empty [] = true
 empty (b ∷ r) = false
 

@@ -5,9 +5,8 @@ use mathlib.Core.Bool.{Bool, true, false, cond, _&&_, not}
 use mathlib.Core.List.{List, [], _∷_}
 use lib.Dec.{eqb, leb}
 use lib.ListN.{length}
-use lib.IntN.{pos}
-use lib.Ieee.{Float, nan, binary64, div, neg, ofInt}
-use Rattle.real.specs.Literals.{nought}
+use lib.Ieee.{Float, nan, binary64, div, neg}
+use Rattle.real.specs.Literals.{double, nought}
 use Rattle.fields.specs.Cut.{upto, past, has, empty, only}
 use Rattle.fields.specs.Digits.{digits, number}
 use Rattle.fields.specs.declared.Real.{Real}
@@ -19,7 +18,7 @@ allowed w d = leb (length w + length d) 15
 
 -- "the digits as a whole number divided once by the power of ten of its decimals"
 abbrev pub valueOf : List ℕ → List ℕ → Float
-valueOf w d = div binary64 (ofInt binary64 (pos (number (number 0 w) d))) (ofInt binary64 (pos (10 ^ length d)))
+valueOf w d = div binary64 (double (number (number 0 w) d)) (double (10 ^ length d))
 
 -- w before the point, "one or more digits", and d behind it
 unfoldable pub amountOf : List ℕ → List ℕ → Real

@@ -2,9 +2,9 @@
 ghost use mathlib.Core.Path.{_≡_};
 ghost use Prim.Native.Nat.{_+_, _-_, _*_, _^_, _<_, _≤_};
 ghost use lib.ListN.{length};
-ghost use lib.IntN.{pos};
-ghost use lib.Ieee.{binary64, ofInt, div};
+ghost use lib.Ieee.{binary64, div};
 ghost use lib.Seq.{slice};
+ghost use Rattle.real.specs.Literals.{double};
 ghost use Rattle.fields.specs.Cut.{Found, only};
 ghost use Rattle.fields.specs.Digits.{digitsOf, busOf, isNumber, numberIn};
 ghost use Rattle.fields.specs.Real.{allowed, amountOf, unsignedOf, negatedOf, realOf, orNanOf, isReal, realIn};
@@ -113,7 +113,7 @@ const TEN: [f64; 16] = [
 // The power of ten of k decimals. The only place that knows of the table.
 fn ten(k: usize) -> f64
     requires { ⌜ k < 16 ⌝ }
-    ensures { λ r. ⌜ r ≡ ofInt binary64 (pos (10 ^ k)) ⌝ }
+    ensures { λ r. ⌜ r ≡ double (10 ^ k) ⌝ }
 {
     TEN[k]
 }
@@ -121,7 +121,7 @@ fn ten(k: usize) -> f64
 // m divided once by the power of ten of k decimals.
 fn scaled(m: usize, k: usize) -> f64
     requires { ⌜ (m < 10 ^ 15) × (k < 16) ⌝ }
-    ensures { λ r. ⌜ r ≡ div binary64 (ofInt binary64 (pos m)) (ofInt binary64 (pos (10 ^ k))) ⌝ }
+    ensures { λ r. ⌜ r ≡ div binary64 (double m) (double (10 ^ k)) ⌝ }
 {
     (m as f64) / ten(k)
 }

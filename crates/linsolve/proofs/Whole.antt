@@ -12,7 +12,7 @@ use borrow.Author.Tests.{eqb-false}
 use lib.Dec.{eqb}
 use lib.ListN.{length, set, length-set}
 use lib.Seq.{set-getD}
-use lib.Ieee.{Float, nan, binary64, div, lt}
+use lib.Ieee.{Float, binary64, div, lt}
 use Rattle.real.specs.Literals.{nought}
 use Rattle.real.specs.Real.{absolute}
 use Rattle.linsolve.specs.declared.Solution.{Solution}

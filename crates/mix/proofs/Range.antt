@@ -10,6 +10,7 @@ use lib.Bits.{bitXor, xor-lt}
 use lib.IntN.{pos}
 use lib.Ieee.{Float, nan, inf, fin, binary64, up, down, sub, mul, div, round, ofInt}
 use lib.Ieee.Fits.{down-pos}
+use Rattle.real.specs.Literals.{double}
 use Rattle.real.proofs.Rounding.{neg-round, AtMost, round-at-most, Small, small-above, small-below}
 use Rattle.mix.specs.Noise.{times, folded, wordOf, mixOf}
 
@@ -20,7 +21,7 @@ word-lt : (a b : ℕ) → wordOf a b < 2 ^ 64
 word-lt a b = folded-lt (times (folded (bitXor (times a 0x9E37_79B9_7F4A_7C15) (times b 0xD1B5_4A32_D192_ED03))) 0xFF51_AFD7_ED55_8CCD) (mod-lt _ (lit< tt))
 
 -- the word as a double
-as-double : (w : ℕ) → w < 2 ^ 64 → AtMost (2 ^ 64) (ofInt binary64 (pos w))
+as-double : (w : ℕ) → w < 2 ^ 64 → AtMost (2 ^ 64) (double w)
 unfolding ofInt
 as-double w h = round-at-most 64 w 1 (lit< tt) (omega arith) (unfold round in refl)
 

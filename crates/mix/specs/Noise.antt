@@ -1,8 +1,8 @@
 -- 01, "Starts": `mix` is 64-bit arithmetic that drops carries; the cast to a double rounds once, to nearest even ("Slips we have met").
 use Prim.Native.Nat.{ℕ, _-_, _*_, _/_, _%_, _^_}
 use lib.Bits.{bitXor}
-use lib.IntN.{pos}
-use lib.Ieee.{Float, binary64, sub, mul, div, ofInt}
+use lib.Ieee.{Float, binary64, sub, mul, div}
+use Rattle.real.specs.Literals.{double}
 
 -- the product with its carries dropped
 abbrev pub times : ℕ → ℕ → ℕ
@@ -19,5 +19,5 @@ wordOf a b = folded (times (folded (bitXor (times a 0x9E37_79B9_7F4A_7C15) (time
 unfoldable pub mixOf : ℕ → ℕ → Float
 mixOf a b =
     sub binary64
-    (mul binary64 (div binary64 (ofInt binary64 (pos (wordOf a b))) (ofInt binary64 (pos (2 ^ 64 - 1)))) (ofInt binary64 (pos 2)))
-    (ofInt binary64 (pos 1))
+    (mul binary64 (div binary64 (double (wordOf a b)) (double (2 ^ 64 - 1))) (double 2))
+    (double 1)

@@ -1,7 +1,7 @@
 -- A section: the pieces between its LFs. In a good one the last piece is empty, and each other is a row.
 pub mod Laws
 use Prim.Native.Nat.{ℕ, _+_}
-use mathlib.Core.Bool.{Bool, true, false, cond, _&&_}
+use mathlib.Core.Bool.{cond, _&&_}
 use mathlib.Core.List.{List, [], _∷_}
 use lib.Dec.{leb}
 use lib.ListN.{length}
@@ -11,10 +11,6 @@ use Rattle.rows.specs.Line.{lineOf}
 use Rattle.rows.specs.declared.Section.{Section}
 use Rattle.rows.specs.declared.Check.{Check}
 use Rattle.rows.specs.declared.Check.the-variants as Check
-
-abbrev pub none : List (List ℕ) → Bool
-none [] = true
-none (l ∷ ls) = false
 
 -- a refusal stands, and a good line leads on
 abbrev pub after : Check → Check → Check
@@ -27,9 +23,9 @@ after (Check.Field at) v = Check.Field at
 unfoldable pub sectionOf : Section → ℕ → ℕ → List (List ℕ) → Check
 sectionOf t r at [] = Check.Good r
 sectionOf t r at (l ∷ ls) =
-    cond (empty l && none ls) (Check.Good r)
+    cond (empty l && empty ls) (Check.Good r)
     (cond (leb (sizeOf t) r) (Check.Rows at)
-    (cond (none ls) (Check.Form at)
+    (cond (empty ls) (Check.Form at)
     (after (lineOf t at l) (sectionOf t (r + 1) (at + length l + 1) ls))))
 
 -- the check of a section's bytes, which start at `at`
@@ -39,7 +35,7 @@ checkOf t at l = sectionOf t 0 at (pieces 10 l)
 -- all pieces but the last
 unfoldable pub ended : List (List ℕ) → List (List ℕ)
 ended [] = []
-ended (l ∷ ls) = cond (none ls) [] (l ∷ ended ls)
+ended (l ∷ ls) = cond (empty ls) [] (l ∷ ended ls)
 
 -- the lines of a section, each without its LF
 abbrev pub rowsOf : List ℕ → List (List ℕ)

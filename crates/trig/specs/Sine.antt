@@ -5,6 +5,7 @@ use mathlib.Core.List.{List, [], _∷_}
 use lib.IntN.{ℤ, pos, negsuc, negℤ, sucℤ, _+ℤ_, _*ℤ_}
 use lib.Signed.{_≤ℤ_, _<ℤ_}
 use lib.Ieee.{Float, nan, inf, fin, binary64, up, down, add, sub, mul, div, neg, lt, isNan, ofInt, ofBits}
+use Rattle.real.specs.Literals.{double}
 use Rattle.real.specs.Real.{absolute}
 use Rattle.trig.specs.declared.SinCos.{SinCos}
 
@@ -17,8 +18,8 @@ factorial (suc n) = suc n * factorial n
 -- 1.0 divided once by n!, signed
 unfoldable pub coefficient : Bool → ℕ → Float
 unfolding factorial
-coefficient false n = div binary64 (ofInt binary64 (pos 1)) (ofInt binary64 (pos (factorial n)))
-coefficient true n = neg (div binary64 (ofInt binary64 (pos 1)) (ofInt binary64 (pos (factorial n))))
+coefficient false n = div binary64 (double 1) (double (factorial n))
+coefficient true n = neg (div binary64 (double 1) (double (factorial n)))
 
 -- start with the highest, then repeatedly lower + z * sum
 unfoldable pub horner : Float → List Float → Float
@@ -91,7 +92,7 @@ unfoldable pub cosineOf : Float → Float
 unfolding horner cosineCoefficients
 cosineOf r =
     let z = mul binary64 r r in
-    add binary64 (ofInt binary64 (pos 1)) (mul binary64 z (horner z cosineCoefficients))
+    add binary64 (double 1) (mul binary64 z (horner z cosineCoefficients))
 
 -- (x - k * 3FF921FB54400000) - k * 3DD0B4611A626331
 unfoldable pub reduced : Float → ℤ → Float
@@ -102,7 +103,7 @@ reduced x k =
 -- |x| > 1024, or x is NaN: both are NaN
 unfoldable pub outside : Float → Bool
 unfolding absolute
-outside x = isNan x || lt (ofInt binary64 (pos 1024)) (absolute x)
+outside x = isNan x || lt (double 1024) (absolute x)
 
 -- k, of t = x times 3FE45F306DC9C883
 unfoldable pub turnsOf : Float → ℤ

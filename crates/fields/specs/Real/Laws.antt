@@ -6,10 +6,10 @@ use Prim.Native.Nat.{ℕ, _+_, _*_, _^_, _≤_, _<_}
 use native.Mathlib.Omega.{arith}
 use native.Mathlib.Nat.{le-trans, mul-le-mul-right}
 use lib.Pow.{pow-add}
-use lib.IntN.{pos}
-use lib.Ieee.{binary64, div, ofInt}
+use lib.Ieee.{binary64, div}
 use lib.ListN.{length}
 use borrow.Author.Tests.{leb-true}
+use Rattle.real.specs.Literals.{double}
 use Rattle.fields.specs.Cut.{empty}
 use Rattle.fields.specs.Digits.{digits, digitsOf}
 use Rattle.fields.specs.Digits.Laws.{digitsOf-all, digitsOf-number, number-bound, tens}
@@ -59,6 +59,6 @@ module _ (w d : List ℕ) (h : allowed w d ≡ true) where
           let f : n + 1 ≤ 10 ^ 15 = le-trans g decimals-room in
           omega arith
 
-      pub value : empty w ≡ false → amountOf w d ≡ Real.Value (div binary64 (ofInt binary64 (pos n)) (ofInt binary64 (pos (10 ^ length d))))
+      pub value : empty w ≡ false → amountOf w d ≡ Real.Value (div binary64 (double n) (double (10 ^ length d)))
       unfolding amountOf
       value g = rw (g, h, digitsOf-all 0 m w q, digitsOf-all m n d r, digitsOf-number 0 m w q, digitsOf-number m n d r)

@@ -2,22 +2,22 @@
 use mathlib.Core.Path.{_≡_, refl}
 use Prim.Native.Nat.{ℕ, _-_, _^_}
 use lib.Bits.{bitXor}
-use lib.IntN.{pos}
 use lib.Ieee.{Float, binary64, ofBits, ofInt, sub, mul, div}
 use borrow.Author.Needs.{needs}
+use Rattle.real.specs.Literals.{double}
 use Rattle.mix.specs.Noise.{times, folded, mixOf}
 use Rattle.mix.proofs.mix.Statement.{statement}
 use Rattle.mix.proofs.mix.Tie as tie
 
-one : ofBits binary64 0x3ff0_0000_0000_0000 ≡ ofInt binary64 (pos 1)
+one : ofBits binary64 0x3ff0_0000_0000_0000 ≡ double 1
 unfolding ofBits ofInt
 one = refl
 
-two : ofBits binary64 0x4000_0000_0000_0000 ≡ ofInt binary64 (pos 2)
+two : ofBits binary64 0x4000_0000_0000_0000 ≡ double 2
 unfolding ofBits ofInt
 two = refl
 
-all : ofBits binary64 0x43f0_0000_0000_0000 ≡ ofInt binary64 (pos (2 ^ 64 - 1))
+all : ofBits binary64 0x43f0_0000_0000_0000 ≡ double (2 ^ 64 - 1)
 unfolding ofBits ofInt
 all = refl
 
@@ -25,7 +25,7 @@ assembled : (a b m n y : ℕ) (v : Float)
     → m ≡ times a 0x9E37_79B9_7F4A_7C15
     → n ≡ times b 0xD1B5_4A32_D192_ED03
     → y ≡ times (folded (bitXor m n)) 0xFF51_AFD7_ED55_8CCD
-    → v ≡ ofInt binary64 (pos (folded y))
+    → v ≡ double (folded y)
     → sub binary64 (mul binary64 (div binary64 v (ofBits binary64 0x43f0_0000_0000_0000)) (ofBits binary64 0x4000_0000_0000_0000)) (ofBits binary64 0x3ff0_0000_0000_0000) ≡ mixOf a b
 unfolding mixOf
 assembled a b m n y v em en ey ev = rw (ev, ey, em, en, all, two, one)

@@ -14,7 +14,7 @@ use Rattle.fields.specs.Cut.{empty, only, pieces, onto}
 use Rattle.real.specs.Tests.{decided, true-false, and-left, and-right}
 use Rattle.rows.specs.Asked.{letterOf, countOf, sizeOf, wantOf, goodOf}
 use Rattle.rows.specs.Line.{allSome, formOf, fieldsOf, lineOf, tail}
-use Rattle.rows.specs.Rows.{none, after, sectionOf, checkOf, ended, rowsOf}
+use Rattle.rows.specs.Rows.{after, sectionOf, checkOf, ended, rowsOf}
 use Rattle.rows.specs.Rows.Laws.{pieces-some}
 use Rattle.rows.specs.Printed.{spread, fieldsIn, tableOf, printed}
 use Rattle.rows.specs.declared.Section.{Section}
@@ -32,7 +32,7 @@ unfolding spread
 join-onto x b [] = refl
 join-onto x b (p ∷ ps) = refl
 
-open-join : (x : ℕ) (ps : List (List ℕ)) → none ps ≡ false → spread x ps ≡ x ∷ join x ps
+open-join : (x : ℕ) (ps : List (List ℕ)) → empty ps ≡ false → spread x ps ≡ x ∷ join x ps
 unfolding spread
 open-join x [] h = absurd (true-false refl h)
 open-join x (p ∷ ps) h = refl
@@ -89,7 +89,7 @@ neither false at n h = never (Check.Form at) n h refl
 
 -- ---- a section
 
-lines-printed : (t : Section) (r at : ℕ) (ps : List (List ℕ)) (n : ℕ) → none ps ≡ false → sectionOf t r at ps ≡ Check.Good n
+lines-printed : (t : Section) (r at : ℕ) (ps : List (List ℕ)) (n : ℕ) → empty ps ≡ false → sectionOf t r at ps ≡ Check.Good n
     → join 10 ps ≡ printed t (map fieldsIn (ended ps))
 unfolding sectionOf ended printed spread
 lines-printed t r at [] n g h = absurd (true-false refl g)
@@ -113,7 +113,7 @@ section-printed t at l n h = sym (join-pieces 10 l) ∙ lines-printed t 0 at (pi
 good-is : (m n : ℕ) → Check.Good m ≡ Check.Good n → n ≡ m
 good-is m n h = cc
 
-lines-count : (t : Section) (r at : ℕ) (ps : List (List ℕ)) (n : ℕ) → none ps ≡ false → sectionOf t r at ps ≡ Check.Good n → n ≡ r + length (ended ps)
+lines-count : (t : Section) (r at : ℕ) (ps : List (List ℕ)) (n : ℕ) → empty ps ≡ false → sectionOf t r at ps ≡ Check.Good n → n ≡ r + length (ended ps)
 unfolding sectionOf ended
 lines-count t r at [] n g h = absurd (true-false refl g)
 lines-count t r at (l ∷ []) n g h =
@@ -128,7 +128,7 @@ lines-count t r at (l ∷ m ∷ ms) n g h =
 pub section-rows : (t : Section) (at : ℕ) (l : List ℕ) (n : ℕ) → checkOf t at l ≡ Check.Good n → n ≡ length (rowsOf l)
 section-rows t at l n h = let e = lines-count t 0 at (pieces 10 l) n (pieces-some 10 l) h in omega arith
 
-lines-most : (t : Section) (r at : ℕ) (ps : List (List ℕ)) (n : ℕ) → none ps ≡ false → r ≤ sizeOf t → sectionOf t r at ps ≡ Check.Good n → n ≤ sizeOf t
+lines-most : (t : Section) (r at : ℕ) (ps : List (List ℕ)) (n : ℕ) → empty ps ≡ false → r ≤ sizeOf t → sectionOf t r at ps ≡ Check.Good n → n ≤ sizeOf t
 unfolding sectionOf
 lines-most t r at [] n g b h = absurd (true-false refl g)
 lines-most t r at (l ∷ []) n g b h =

@@ -9,22 +9,22 @@ use lib.Dec.{eqb}
 use lib.ListN.{length}
 use lib.Seq.{slice, length-slice}
 use borrow.Author.Tests.{le-leb, lt-leb}
-use Rattle.fields.specs.Cut.{pieces, onto, Found}
+use Rattle.fields.specs.Cut.{empty, pieces, onto, Found}
 use Rattle.real.specs.Tests.{decided}
 use Rattle.fields.specs.Cut.Laws.{slice-some, slice-none}
 use Rattle.rows.specs.Asked.{sizeOf}
 use Rattle.rows.specs.Line.{lineOf}
 use Rattle.rows.specs.Line.Laws.{below-or}
-use Rattle.rows.specs.Rows.{none, after, sectionOf, ended, rowsOf}
+use Rattle.rows.specs.Rows.{after, sectionOf, ended, rowsOf}
 use Rattle.rows.specs.declared.Section.{Section}
 use Rattle.rows.specs.declared.Check.{Check}
 use Rattle.rows.specs.declared.Check.the-variants as Check
 
-never-none : (b : ℕ) (ps : List (List ℕ)) → none (onto b ps) ≡ false
+never-none : (b : ℕ) (ps : List (List ℕ)) → empty (onto b ps) ≡ false
 never-none b [] = refl
 never-none b (p ∷ ps) = refl
 
-pub pieces-some : (x : ℕ) (l : List ℕ) → none (pieces x l) ≡ false
+pub pieces-some : (x : ℕ) (l : List ℕ) → empty (pieces x l) ≡ false
 unfolding pieces
 pieces-some x [] = refl
 pieces-some x (b ∷ r) = ⊎-elim (λ p. rw p) (λ p. rw p (never-none b (pieces x r))) (decided (eqb b x))
