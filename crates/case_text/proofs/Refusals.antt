@@ -1,4 +1,4 @@
--- A refusal is handed on by everything that follows it. Assumes nothing.
+-- A refusal is handed on by everything that follows it, and a good section leads on. Assumes nothing.
 use mathlib.Core.Path.{_≡_, refl}
 use mathlib.Core.Logic.{⊎-elim}
 use mathlib.Core.List.{List, [], _∷_}
@@ -24,6 +24,10 @@ refusal (Check.Good n) k h = absurd (⊎-elim (λ e. eqb-false 0 1 refl e) (⊎-
 refusal (Check.Rows n) k h = refl
 refusal (Check.Form n) k h = refl
 refusal (Check.Field n) k h = refl
+
+-- a good one leads on, with its rows
+pub on-good : {v w : Check} {n : ℕ} (k : ℕ → Reading) → v ≡ w → v ≡ Check.Good n → thenSection w k ≡ k n
+on-good k e h = rw (← e, h)
 
 -- ---- the text's
 

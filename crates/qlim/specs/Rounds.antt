@@ -54,8 +54,8 @@ abbrev pub infinity : Float
 infinity = inf false
 
 -- Newton's end under these kinds, with a residual
-abbrev pub settle : ℕ → List BusKind → Ended → Float → Settled
-settle n kinds e res = record { point = e .point; letters = lettersOf n kinds; iterations = e .iterations; residual = res }
+abbrev pub settleOf : ℕ → List BusKind → Ended → Float → Settled
+settleOf n kinds e res = record { point = e .point; letters = lettersOf n kinds; iterations = e .iterations; residual = res }
 
 -- what a round makes of Newton's end r: it settles, or `rest` goes on from the new kinds
 unfoldable pub roundOf : Study → List BusKind → Track → Run → (List BusKind → Track → Point → Settled → List Float → Done) → Done
@@ -64,10 +64,10 @@ roundOf s kinds t r rest =
     let q = injectionsOf (s .n) (s .y) (e .point .vm) (e .point .va) .power .q in
     let ms = movesOf (s .n) kinds (s .limits) t (s .qd) q (e .point .vm) (s .hold) in
     let next = kindsAfter (s .n) kinds ms in
-    let settled = done (settle (s .n) kinds e (e .residual)) (spaceAfter r) in
+    let settled = done (settleOf (s .n) kinds e (e .residual)) (spaceAfter r) in
     cond (le tolerance (e .residual)) settled
     (cond (anyMove (s .n) ms)
-    (rest next (trackAfter (s .n) t (s .limits) (s .qg) ms) (pinned (s .n) next (s .hold) (e .point)) (settle (s .n) kinds e infinity) (spaceAfter r))
+    (rest next (trackAfter (s .n) t (s .limits) (s .qg) ms) (pinned (s .n) next (s .hold) (e .point)) (settleOf (s .n) kinds e infinity) (spaceAfter r))
     settled)
 
 -- the next k rounds; with none left, the last that ran, at infinity

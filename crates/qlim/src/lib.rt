@@ -5,13 +5,14 @@ use layout::Limits;
 use layout::Point;
 use moves::Move;
 use moves::Track;
+use newton::Ended;
 use real::TOL;
 ghost use mathlib.Core.Path.{_≡_};
 ghost use Prim.Native.Nat.{_≤_};
 ghost use lib.ListN.{length};
 ghost use Rattle.injections.specs.Injections.{ybus, Good, injectionsOf};
 ghost use Rattle.moves.specs.Moves.{movesOf};
-ghost use Rattle.qlim.specs.Rounds.{study, Ready, done, qlimOf};
+ghost use Rattle.qlim.specs.Rounds.{study, Ready, settleOf, done, qlimOf};
 
 // The last round's point, its kinds as letters (a field can't be an array of enums), iterations and residual.
 pub struct Settled {
@@ -19,6 +20,20 @@ pub struct Settled {
     pub letters: [u8; 32],
     pub iterations: usize,
     pub residual: f64,
+}
+
+// Newton's end under these kinds, with a residual.
+fn settle(n: usize, kinds: [BusKind; 32], e: Ended, residual: f64) -> Settled
+    requires { ⌜ n ≤ 32 ⌝ }
+    ensures { λ r. ⌜ r ≡ settleOf n kinds e residual ⌝ }
+{
+    let point = e.point;
+    Settled {
+        point,
+        letters: moves::letters(n, kinds),
+        iterations: e.iterations,
+        residual,
+    }
 }
 
 // The moves at Newton's end: all buses are tested against the one set of figures there.
@@ -89,17 +104,10 @@ pub fn solve_qlim(
         let layout = AcPfLayout::with_kinds(n, kinds);
         let qsched = t.qsched;
         let e = newton::newton(y_row, y_col, y_re, y_im, layout, pd, qd, pg, qsched, p, w);
-        let point = e.point;
-        let ls = moves::letters(n, kinds);
-        let s = Settled {
-            point,
-            letters: ls,
-            iterations: e.iterations,
-            residual: e.residual,
-        };
         if e.residual >= TOL {
-            return s;
+            return settle(n, kinds, e, e.residual);
         }
+        let point = e.point;
         let ms = switches(
             n,
             kinds,
@@ -114,18 +122,13 @@ pub fn solve_qlim(
             vm_hold,
         );
         if !moves::any_move(n, ms) {
-            return s;
+            return settle(n, kinds, e, e.residual);
         }
+        last = settle(n, kinds, e, 1.0 / 0.0);
         let next = moves::kinds_after(n, kinds, ms);
         kinds = next;
         t = moves::track_after(n, t, limits, qg, ms);
         p = moves::pin(n, next, vm_hold, point);
-        last = Settled {
-            point,
-            letters: ls,
-            iterations: e.iterations,
-            residual: 1.0 / 0.0,
-        };
     }
     last
 }

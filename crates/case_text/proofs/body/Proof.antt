@@ -1,74 +1,78 @@
 -- `case_text::body` meets its contract: the sections in turn, each refusal the text's. Assumes nothing.
+use mathlib.Core.Path.{_≡_, sym, _∙_}
 use borrow.Author.Needs.{needs}
-use Rattle.case_text.specs.Text.{bodyOf}
-use Rattle.case_text.proofs.Refusals.{refusal}
+use Rattle.case_text.specs.Text.{afterY, afterL, afterG, afterR, afterB, bodyOf}
+use Rattle.case_text.specs.declared.Reading.{Reading}
+use Rattle.case_text.proofs.Refusals.{refusal, on-good}
 use Rattle.case_text.proofs.body.Statement.{statement}
 use Rattle.case_text.proofs.body.Tie as tie
+
+-- ---- a good section after the other: what is left of the body
+
+abbrev entry : tie.After-vb → tie.Start
+entry c = c .before .before .before .before
+
+abbrev b-of : tie.After-vr → tie.After-vb
+b-of c = c .before .before .before .before
+
+abbrev r-of : tie.After-vg → tie.After-vr
+r-of c = c .before .before .before .before
+
+abbrev g-of : tie.After-vl → tie.After-vg
+g-of c = c .before .before .before .before
+
+abbrev l-of : tie.After-vy → tie.After-vl
+l-of c = c .before .before .before .before
+
+abbrev Left : tie.Start → Reading → Type 0
+Left x v = bodyOf (x .args .s .now) (x .args .t) ≡ v
+
+after-b : (c : tie.After-vb) → let x = entry c in Left x (afterB (x .args .s .now) (x .args .t) (c .vb .given .0 .0))
+unfolding bodyOf
+after-b c = on-good _ (c .before .before .check-part .ensures) (c .vb .given .1)
+
+after-r : (c : tie.After-vr) → let b = b-of c in let x = entry b in Left x (afterR (x .args .s .now) (x .args .t) (b .vb .given .0 .0) (c .vr .given .0 .0))
+after-r c = after-b (b-of c) ∙ on-good _ (c .before .before .check-part2 .ensures) (c .vr .given .1)
+
+after-g : (c : tie.After-vg) → let r = r-of c in let b = b-of r in let x = entry b in Left x (afterG (x .args .s .now) (x .args .t) (b .vb .given .0 .0) (r .vr .given .0 .0) (c .vg .given .0 .0))
+after-g c = after-r (r-of c) ∙ on-good _ (c .before .before .check-part3 .ensures) (c .vg .given .1)
+
+after-l : (c : tie.After-vl) → let g = g-of c in let r = r-of g in let b = b-of r in let x = entry b in Left x (afterL (x .args .s .now) (x .args .t) (b .vb .given .0 .0) (r .vr .given .0 .0) (g .vg .given .0 .0) (c .vl .given .0 .0))
+after-l c = after-g (g-of c) ∙ on-good _ (c .before .before .check-part4 .ensures) (c .vl .given .1)
+
+after-y : (c : tie.After-vy) → let l = l-of c in let g = g-of l in let r = r-of g in let b = b-of r in let x = entry b in Left x (afterY (x .args .s .now) (x .args .t) (b .vb .given .0 .0) (r .vr .given .0 .0) (g .vg .given .0 .0) (l .vl .given .0 .0) (c .vy .given .0 .0))
+after-y c = after-l (l-of c) ∙ on-good _ (c .before .before .check-part5 .ensures) (c .vy .given .1)
+
+-- ---- the ways out
 
 returns : tie.Need-returns
 unfolding bodyOf
 returns c =
-    let p0 = c .before .before in
-    rw (← p0 .check-part .ensures, refusal (p0 .check-part .result) _ (c .before .match .keys2)) (c .refused .ensures)
+    let p = c .before .before in
+    rw (← p .check-part .ensures, refusal (p .check-part .result) _ (c .before .match .keys2)) (c .refused .ensures)
 
 returns-2 : tie.Need-returns-2
-unfolding bodyOf
 returns-2 c =
-    let p1 = c .before .before in
-    let k0 = p1 .before .before in
-    let p0 = k0 .before .before in
-    rw (← p0 .check-part .ensures, k0 .vb .given .1, ← p1 .check-part2 .ensures, refusal (p1 .check-part2 .result) _ (c .before .match2 .keys2)) (c .refused2 .ensures)
+    let p = c .before .before in
+    rw (after-b (p .before .before), ← p .check-part2 .ensures, refusal (p .check-part2 .result) _ (c .before .match2 .keys2)) (c .refused2 .ensures)
 
 returns-3 : tie.Need-returns-3
-unfolding bodyOf
 returns-3 c =
-    let p2 = c .before .before in
-    let k1 = p2 .before .before in
-    let p1 = k1 .before .before in
-    let k0 = p1 .before .before in
-    let p0 = k0 .before .before in
-    rw (← p0 .check-part .ensures, k0 .vb .given .1, ← p1 .check-part2 .ensures, k1 .vr .given .1, ← p2 .check-part3 .ensures, refusal (p2 .check-part3 .result) _ (c .before .match3 .keys2)) (c .refused3 .ensures)
+    let p = c .before .before in
+    rw (after-r (p .before .before), ← p .check-part3 .ensures, refusal (p .check-part3 .result) _ (c .before .match3 .keys2)) (c .refused3 .ensures)
 
 returns-4 : tie.Need-returns-4
-unfolding bodyOf
 returns-4 c =
-    let p3 = c .before .before in
-    let k2 = p3 .before .before in
-    let p2 = k2 .before .before in
-    let k1 = p2 .before .before in
-    let p1 = k1 .before .before in
-    let k0 = p1 .before .before in
-    let p0 = k0 .before .before in
-    rw (← p0 .check-part .ensures, k0 .vb .given .1, ← p1 .check-part2 .ensures, k1 .vr .given .1, ← p2 .check-part3 .ensures, k2 .vg .given .1, ← p3 .check-part4 .ensures, refusal (p3 .check-part4 .result) _ (c .before .match4 .keys2)) (c .refused4 .ensures)
+    let p = c .before .before in
+    rw (after-g (p .before .before), ← p .check-part4 .ensures, refusal (p .check-part4 .result) _ (c .before .match4 .keys2)) (c .refused4 .ensures)
 
 returns-5 : tie.Need-returns-5
-unfolding bodyOf
 returns-5 c =
-    let p4 = c .before .before in
-    let k3 = p4 .before .before in
-    let p3 = k3 .before .before in
-    let k2 = p3 .before .before in
-    let p2 = k2 .before .before in
-    let k1 = p2 .before .before in
-    let p1 = k1 .before .before in
-    let k0 = p1 .before .before in
-    let p0 = k0 .before .before in
-    rw (← p0 .check-part .ensures, k0 .vb .given .1, ← p1 .check-part2 .ensures, k1 .vr .given .1, ← p2 .check-part3 .ensures, k2 .vg .given .1, ← p3 .check-part4 .ensures, k3 .vl .given .1, ← p4 .check-part5 .ensures, refusal (p4 .check-part5 .result) _ (c .before .match5 .keys2)) (c .refused5 .ensures)
+    let p = c .before .before in
+    rw (after-l (p .before .before), ← p .check-part5 .ensures, refusal (p .check-part5 .result) _ (c .before .match5 .keys2)) (c .refused5 .ensures)
 
 returns-6 : tie.Need-returns-6
-unfolding bodyOf
-returns-6 c =
-    let k4 = c .before .before .before in
-    let p4 = k4 .before .before in
-    let k3 = p4 .before .before in
-    let p3 = k3 .before .before in
-    let k2 = p3 .before .before in
-    let p2 = k2 .before .before in
-    let k1 = p2 .before .before in
-    let p1 = k1 .before .before in
-    let k0 = p1 .before .before in
-    let p0 = k0 .before .before in
-    rw (← p0 .check-part .ensures, k0 .vb .given .1, ← p1 .check-part2 .ensures, k1 .vr .given .1, ← p2 .check-part3 .ensures, k2 .vg .given .1, ← p3 .check-part4 .ensures, k3 .vl .given .1, ← p4 .check-part5 .ensures, k4 .vy .given .1, ← c .mode .ensures)
+returns-6 c = rw (after-y (c .before .before .before), ← c .mode .ensures)
 
 pub body-spec : {M : Type 1} → statement M
 body-spec =

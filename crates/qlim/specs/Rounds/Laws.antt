@@ -18,7 +18,7 @@ use Rattle.moves.specs.declared.Move.{Move}
 use Rattle.moves.specs.declared.Track.{Track}
 use Rattle.qlim.specs.declared.Settled.{Settled}
 use Rattle.moves.specs.Moves.{movesOf, anyMove, kindsAfter, trackAfter, pinned, lettersOf}
-use Rattle.qlim.specs.Rounds.{Study, Ready, Done, done, infinity, settle, roundOf, roundsFrom, fresh, qlimOf}
+use Rattle.qlim.specs.Rounds.{Study, Ready, Done, done, infinity, settleOf, roundOf, roundsFrom, fresh, qlimOf}
 
 pub rounds-none : (s : Study) (kinds : List BusKind) (t : Track) (p : Point) (last : Settled) (w : List Float) → done last w ≡ roundsFrom 0 s kinds t p last w
 unfolding roundsFrom
@@ -26,46 +26,39 @@ rounds-none s kinds t p last w = refl
 
 -- a round, once Newton's end e and the workspace v that it leaves are known
 module _ (s : Study) (kinds : List BusKind) (t : Track) (e : Ended) (v : List Float) (rest : List BusKind → Track → Point → Settled → List Float → Done) where
-  round-short : le tolerance (e .residual) ≡ true → roundOf s kinds t (run e v) rest ≡ done (settle (s .n) kinds e (e .residual)) v
+  round-short : le tolerance (e .residual) ≡ true → roundOf s kinds t (run e v) rest ≡ done (settleOf (s .n) kinds e (e .residual)) v
   unfolding roundOf
   round-short h = rw h
 
   module _ (h : le tolerance (e .residual) ≡ false) (ms : List Move)
       (em : ms ≡ movesOf (s .n) kinds (s .limits) t (s .qd) (injectionsOf (s .n) (s .y) (e .point .vm) (e .point .va) .power .q) (e .point .vm) (s .hold)) where
-    round-still : anyMove (s .n) ms ≡ false → roundOf s kinds t (run e v) rest ≡ done (settle (s .n) kinds e (e .residual)) v
+    round-still : anyMove (s .n) ms ≡ false → roundOf s kinds t (run e v) rest ≡ done (settleOf (s .n) kinds e (e .residual)) v
     unfolding roundOf
     round-still ha = rw (h, ← em, ha)
 
     round-on : anyMove (s .n) ms ≡ true → (next : List BusKind) → next ≡ kindsAfter (s .n) kinds ms → (u : Track) → u ≡ trackAfter (s .n) t (s .limits) (s .qg) ms
-        → (q : Point) → q ≡ pinned (s .n) next (s .hold) (e .point) → roundOf s kinds t (run e v) rest ≡ rest next u q (settle (s .n) kinds e infinity) v
+        → (q : Point) → q ≡ pinned (s .n) next (s .hold) (e .point) → roundOf s kinds t (run e v) rest ≡ rest next u q (settleOf (s .n) kinds e infinity) v
     unfolding roundOf
     round-on ha next en u eu q eq = rw (h, ← em, ha, ← en, ← eu, ← eq)
 
--- the same of the rounds, with what the code has at hand: the layout, Newton's end, the letters
+-- the same of the rounds, with what the code has at hand: the layout and Newton's end
 module _ (k : ℕ) (s : Study) (kinds : List BusKind) (t : Track) (p : Point) (last : Settled) (w : List Float) (l : AcPfLayout) (el : l ≡ layoutOf (s .n) kinds)
-    (e : Ended) (v : List Float) (ee : run e v ≡ newtonOf (problem (s .y) l (s .pd) (s .qd) (s .pg) (t .qsched)) p w) (ls : List ℕ) (es : ls ≡ lettersOf (s .n) kinds) where
-  abbrev pub given : Float → Settled
-  given res = record { point = e .point; letters = ls; iterations = e .iterations; residual = res }
-
+    (e : Ended) (v : List Float) (ee : run e v ≡ newtonOf (problem (s .y) l (s .pd) (s .qd) (s .pg) (t .qsched)) p w) where
   turn : roundsFrom (suc k) s kinds t p last w ≡ roundOf s kinds t (run e v) (roundsFrom k s)
   unfolding roundsFrom
   turn = ap (λ (r : Run). roundOf s kinds t r (roundsFrom k s)) (sym (ee ∙ ap (λ (x : AcPfLayout). newtonOf (problem (s .y) x (s .pd) (s .qd) (s .pg) (t .qsched)) p w) el))
 
-  named : (res : Float) → settle (s .n) kinds e res ≡ given res
-  named res = ap (λ (x : List ℕ). record { point = e .point; letters = x; iterations = e .iterations; residual = res }) (sym es)
-
-  pub rounds-short : le tolerance (e .residual) ≡ true → roundsFrom (suc k) s kinds t p last w ≡ done (given (e .residual)) v
-  rounds-short h = turn ∙ round-short s kinds t e v (roundsFrom k s) h ∙ ap (λ (x : Settled). done x v) (named (e .residual))
+  pub rounds-short : le tolerance (e .residual) ≡ true → roundsFrom (suc k) s kinds t p last w ≡ done (settleOf (s .n) kinds e (e .residual)) v
+  rounds-short h = turn ∙ round-short s kinds t e v (roundsFrom k s) h
 
   module _ (h : le tolerance (e .residual) ≡ false) (ms : List Move)
       (em : ms ≡ movesOf (s .n) kinds (s .limits) t (s .qd) (injectionsOf (s .n) (s .y) (e .point .vm) (e .point .va) .power .q) (e .point .vm) (s .hold)) where
-    pub rounds-still : anyMove (s .n) ms ≡ false → roundsFrom (suc k) s kinds t p last w ≡ done (given (e .residual)) v
-    rounds-still ha = turn ∙ round-still s kinds t e v (roundsFrom k s) h ms em ha ∙ ap (λ (x : Settled). done x v) (named (e .residual))
+    pub rounds-still : anyMove (s .n) ms ≡ false → roundsFrom (suc k) s kinds t p last w ≡ done (settleOf (s .n) kinds e (e .residual)) v
+    rounds-still ha = turn ∙ round-still s kinds t e v (roundsFrom k s) h ms em ha
 
     pub rounds-on : anyMove (s .n) ms ≡ true → (next : List BusKind) → next ≡ kindsAfter (s .n) kinds ms → (u : Track) → u ≡ trackAfter (s .n) t (s .limits) (s .qg) ms
-        → (q : Point) → q ≡ pinned (s .n) next (s .hold) (e .point) → roundsFrom (suc k) s kinds t p last w ≡ roundsFrom k s next u q (given infinity) v
-    rounds-on ha next en u eu q eq =
-        turn ∙ round-on s kinds t e v (roundsFrom k s) h ms em ha next en u eu q eq ∙ ap (λ (x : Settled). roundsFrom k s next u q x v) (named infinity)
+        → (q : Point) → q ≡ pinned (s .n) next (s .hold) (e .point) → roundsFrom (suc k) s kinds t p last w ≡ roundsFrom k s next u q (settleOf (s .n) kinds e infinity) v
+    rounds-on ha next en u eu q eq = turn ∙ round-on s kinds t e v (roundsFrom k s) h ms em ha next en u eu q eq
 
 pub rounds-begin : (s : Study) (kinds : List BusKind) (p start : Point) → start ≡ pinned (s .n) kinds (s .hold) p → (ls : List ℕ) → ls ≡ lettersOf (s .n) kinds → (w : List Float)
     → roundsFrom 12 s kinds (fresh (s .qg)) start (record { point = start; letters = ls; iterations = 0; residual = infinity }) w ≡ qlimOf s kinds p w

@@ -25,7 +25,7 @@ use Rattle.moves.specs.declared.Track.{Track}
 use Rattle.qlim.specs.declared.Settled.{Settled}
 use Rattle.moves.specs.Moves.{moveAt, movesOf, anyMove, kindsAfter, trackTo, trackAfter, pinned, lettersOf}
 use Rattle.moves.specs.Moves.Laws.{NoLimits, Standing, slack, held, released, loaded, active-v, active-q, reactive-q, move-alike, After, standing-on}
-use Rattle.qlim.specs.Rounds.{Study, study, Done, done, infinity, settle, roundOf, roundsFrom, fresh, qlimOf}
+use Rattle.qlim.specs.Rounds.{Study, study, Done, done, infinity, settleOf, roundOf, roundsFrom, fresh, qlimOf}
 
 -- alike for rounds that begin under these kinds: at each bus a figure agrees, or the bus is of a kind at which it is withheld
 pub record AlikeStudies (kinds : List BusKind) (s u : Study) : Type 0 where
@@ -158,7 +158,7 @@ module _ (d : List BusKind) (s u : Study) (few : s .n ≤ 32) (a : AlikeStudies 
     at-end = endedOf e .point
 
     abbrev settled : Done
-    settled = done (settle (s .n) kinds (endedOf e) (endedOf e .residual)) (spaceAfter e)
+    settled = done (settleOf (s .n) kinds (endedOf e) (endedOf e .residual)) (spaceAfter e)
 
     abbrev q-end : List Float
     q-end = injectionsOf (s .n) (s .y) (at-end .vm) (at-end .va) .power .q
@@ -170,7 +170,7 @@ module _ (d : List BusKind) (s u : Study) (few : s .n ≤ 32) (a : AlikeStudies 
     abbrev goes : Rest → Study → List Float → List Move → Done
     goes h t z ms =
         let next = kindsAfter (s .n) kinds ms in
-        h next (trackTo (s .n) (track z c r) (t .limits) (t .qg) ms) (pinned (s .n) next (s .hold) at-end) (settle (s .n) kinds (endedOf e) infinity) (spaceAfter e)
+        h next (trackTo (s .n) (track z c r) (t .limits) (t .qg) ms) (pinned (s .n) next (s .hold) at-end) (settleOf (s .n) kinds (endedOf e) infinity) (spaceAfter e)
 
     round-alike : roundOf s kinds (track x c r) e f ≡ roundOf (with s u) kinds (track y c r) e g
     unfolding roundOf trackAfter
