@@ -1,5 +1,5 @@
 -- `case_text::body` meets its contract: the sections in turn, each refusal the text's. Assumes nothing.
-use mathlib.Core.Path.{_≡_, sym, _∙_}
+use mathlib.Core.Path.{_≡_, _∙_}
 use borrow.Author.Needs.{needs}
 use Rattle.case_text.specs.Text.{afterY, afterL, afterG, afterR, afterB, bodyOf}
 use Rattle.case_text.specs.declared.Reading.{Reading}
