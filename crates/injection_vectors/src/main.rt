@@ -12,7 +12,6 @@ use injections::Column;
 use injections::Injections;
 use layout::AcPfLayout;
 use libc::STDIN_FILENO;
-use libc::STDOUT_FILENO;
 
 // ---- what is told
 
@@ -355,9 +354,5 @@ fn main() {
         differing += found;
         done += 1;
     }
-    io::write_all(STDOUT_FILENO, b"points ");
-    io::print_decimal(STDOUT_FILENO, done);
-    io::write_all(STDOUT_FILENO, b", differing ");
-    io::print_decimal(STDOUT_FILENO, differing);
-    io::write_all(STDOUT_FILENO, b"\n");
+    vectors::sum_up(b"points", done, differing);
 }

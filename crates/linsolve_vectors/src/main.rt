@@ -6,7 +6,6 @@ ghost use lib.ListN.{length, replicate};
 ghost use Rattle.vectors.specs.Words.{wordOf, Tells, Found};
 ghost use Rattle.linsolve_vectors.specs.Told.{sizeOf, slotOf, markOf, toldOf, Holds, numberOf, Agrees};
 use libc::STDIN_FILENO;
-use libc::STDOUT_FILENO;
 
 fn size(dim: usize) -> usize
     requires { ⌜ dim ≤ 64 ⌝ }
@@ -144,9 +143,5 @@ fn main() {
         differing += found;
         done += 1;
     }
-    io::write_all(STDOUT_FILENO, b"systems ");
-    io::print_decimal(STDOUT_FILENO, done);
-    io::write_all(STDOUT_FILENO, b", differing ");
-    io::print_decimal(STDOUT_FILENO, differing);
-    io::write_all(STDOUT_FILENO, b"\n");
+    vectors::sum_up(b"systems", done, differing);
 }

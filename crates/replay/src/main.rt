@@ -74,16 +74,12 @@ fn tell(found: u64, number: u64) {
     }
 }
 
-// The last line. A record that is cut off counts as none, so the line names it.
+// The last lines. A record that is cut off counts as none, so a line tells of it.
 fn sum_up(found: u64, done: u64, differing: u64) {
-    io::write_all(STDOUT_FILENO, b"texts ");
-    io::print_decimal(STDOUT_FILENO, done);
     if found != 2 {
-        io::write_all(STDOUT_FILENO, b" and a part");
+        io::write_all(STDOUT_FILENO, b"the list ends within a record\n");
     }
-    io::write_all(STDOUT_FILENO, b", differing ");
-    io::print_decimal(STDOUT_FILENO, differing);
-    io::write_all(STDOUT_FILENO, b"\n");
+    vectors::sum_up(b"texts", done, differing);
 }
 
 fn main() {

@@ -9,7 +9,6 @@ ghost use Rattle.real.specs.Paper.{given};
 ghost use Rattle.case_text.specs.Answer.{paperOf};
 ghost use Rattle.text_vectors.specs.Told.{numberIn, placeOf, refusal, rowsTold, paperTold, wordTold, numbersTold, realsTold, Agrees};
 use libc::STDIN_FILENO;
-use libc::STDOUT_FILENO;
 
 // The record is s throughout, and j counts the columns in read_case's order.
 
@@ -268,9 +267,5 @@ fn main() {
         differing += found;
         done += 1;
     }
-    io::write_all(STDOUT_FILENO, b"texts ");
-    io::print_decimal(STDOUT_FILENO, done as u64);
-    io::write_all(STDOUT_FILENO, b", differing ");
-    io::print_decimal(STDOUT_FILENO, differing);
-    io::write_all(STDOUT_FILENO, b"\n");
+    vectors::sum_up(b"texts", done as u64, differing);
 }

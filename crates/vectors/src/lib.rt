@@ -1,4 +1,5 @@
-// What the test programs share: their input's bytes, words and doubles, and whether two doubles are one value.
+// What the test programs share: their input's bytes, words and doubles, whether two doubles are one value, and the last line.
+use libc::STDOUT_FILENO;
 ghost use mathlib.Core.Path.{_≡_};
 ghost use Prim.Native.Nat.{_+_, _≤_, _<_};
 ghost use lib.ListN.{length};
@@ -69,4 +70,14 @@ pub fn read(fd: i32, s: &mut [u8], n: usize) -> bool
     ensures { λ _. ⌜ length (now (s .exit)) ≡ length (now (s .entry)) ⌝ }
 {
     io::read_full(fd, &mut s[..n]) == n
+}
+
+// The last line of a test: how many records were compared, and how many of them differ.
+pub fn sum_up(records: &[u8], done: u64, differing: u64) {
+    io::write_all(STDOUT_FILENO, records);
+    io::write_all(STDOUT_FILENO, b" ");
+    io::print_decimal(STDOUT_FILENO, done);
+    io::write_all(STDOUT_FILENO, b", differing ");
+    io::print_decimal(STDOUT_FILENO, differing);
+    io::write_all(STDOUT_FILENO, b"\n");
 }

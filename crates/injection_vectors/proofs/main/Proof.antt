@@ -8,10 +8,10 @@ use Rattle.injection_vectors.proofs.main.Statement.{statement}
 use Rattle.injection_vectors.proofs.main.Tie as tie
 
 abbrev Inv-loop : tie.InvT-loop
-Inv-loop head₀ body₀ count done₀ differing₀ t9 t10 t11 head body done differing = (length head ≡ 24) × (length body ≡ 44032) × (done ≤ count) × (differing ≤ done)
+Inv-loop head₀ body₀ count done₀ differing₀ t9 head body done differing = (length head ≡ 24) × (length body ≡ 44032) × (done ≤ count) × (differing ≤ done)
 
 abbrev μ-loop : tie.MeasureT-loop
-μ-loop head₀ body₀ count done₀ differing₀ t9 t10 t11 head body done differing = count - done
+μ-loop head₀ body₀ count done₀ differing₀ t9 head body done differing = count - done
 
 loop-holds : tie.Need-loop-holds Inv-loop μ-loop
 loop-holds c = (omega arith, omega arith, omega arith, omega arith)
@@ -23,4 +23,22 @@ loop-again c =
     (next .kept .0 ∙ l .inv .0, next .kept .1 .0 ∙ l .inv .1, omega arith, omega arith)
 
 pub main-spec : {M : Type 1} → statement M
-main-spec = tie.close (tie.spec Inv-loop μ-loop (λ c κs. search needs) (λ c. search needs) (λ c. search needs) (λ c κs. search needs) (λ c κs. search needs) loop-holds (λ c κs. search needs) (λ c. search needs) (λ c. search needs) (λ c. search needs) loop-again (λ c. search needs) (λ c κs. search needs) (λ c κs. search needs) (λ c. search needs) (λ c κs. search needs) (λ c κs. search needs) (λ c. search needs) (λ c κs. search needs) (λ c. search needs))
+main-spec =
+    tie.close
+    (tie.spec
+    Inv-loop
+    μ-loop
+    (λ c κs. search needs)
+    (λ c. search needs)
+    (λ c. search needs)
+    (λ c κs. search needs)
+    (λ c κs. search needs)
+    loop-holds
+    (λ c κs. search needs)
+    (λ c. search needs)
+    (λ c. search needs)
+    (λ c. search needs)
+    loop-again
+    (λ c. search needs)
+    (λ c κs. search needs)
+    (λ c. search needs))

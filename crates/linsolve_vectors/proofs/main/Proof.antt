@@ -8,11 +8,11 @@ use Rattle.linsolve_vectors.proofs.main.Statement.{statement}
 use Rattle.linsolve_vectors.proofs.main.Tie as tie
 
 abbrev Inv-loop : tie.InvT-loop
-Inv-loop head₀ body₀ count done₀ differing₀ t9 t10 t11 head body done differing =
+Inv-loop head₀ body₀ count done₀ differing₀ t9 head body done differing =
     (length head ≡ 16) × (length body ≡ 66560) × (done ≤ count) × (differing ≤ done)
 
 abbrev μ-loop : tie.MeasureT-loop
-μ-loop head₀ body₀ count done₀ differing₀ t9 t10 t11 head body done differing = count - done
+μ-loop head₀ body₀ count done₀ differing₀ t9 head body done differing = count - done
 
 loop-holds : tie.Need-loop-holds Inv-loop μ-loop
 loop-holds c = (omega arith, omega arith, omega arith, omega arith)
@@ -40,12 +40,6 @@ main-spec =
     (λ c. omega arith)
     (λ c. omega arith)
     loop-again
-    (λ c. search needs)
-    (λ c κs. search needs)
-    (λ c κs. search needs)
-    (λ c. search needs)
-    (λ c κs. search needs)
-    (λ c κs. search needs)
     (λ c. search needs)
     (λ c κs. search needs)
     (λ c. search needs))

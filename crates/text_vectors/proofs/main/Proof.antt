@@ -8,11 +8,11 @@ use Rattle.text_vectors.proofs.main.Statement.{statement}
 use Rattle.text_vectors.proofs.main.Tie as tie
 
 abbrev Inv-loop : tie.InvT-loop
-Inv-loop head₀ text₀ s₀ done₀ differing₀ count t11 t12 t13 head text s done differing =
+Inv-loop head₀ text₀ s₀ done₀ differing₀ count t11 head text s done differing =
     (length head ≡ 4) × (length text ≡ 65536) × (length s ≡ 600000) × (done ≤ count) × (differing ≤ done)
 
 abbrev μ-loop : tie.MeasureT-loop
-μ-loop head₀ text₀ s₀ done₀ differing₀ count t11 t12 t13 head text s done differing = count - done
+μ-loop head₀ text₀ s₀ done₀ differing₀ count t11 head text s done differing = count - done
 
 loop-holds : tie.Need-loop-holds Inv-loop μ-loop
 loop-holds c = (omega arith, omega arith, omega arith, omega arith, omega arith)
@@ -42,12 +42,6 @@ main-spec =
     (λ c. omega arith)
     (λ c. omega arith)
     loop-again
-    (λ c. search needs)
-    (λ c κs. search needs)
-    (λ c κs. search needs)
-    (λ c. search needs)
-    (λ c κs. search needs)
-    (λ c κs. search needs)
     (λ c. search needs)
     (λ c κs. search needs)
     (λ c. search needs))
