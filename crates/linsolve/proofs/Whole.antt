@@ -1,5 +1,4 @@
--- 01, "Linear solve": each lower row "subtracts f times the pivot row and right side". `subLower` leaves out the pivot's column and those further left.
--- Here stands the rule to the letter, with every column, and that it gives the same answer and the same solution.
+-- The subtraction after the pivot's column gives what 01's, over the whole row, gives: the same answer and the same right sides.
 -- Why: the two workspaces come to differ only under the diagonal, in columns whose subtraction is done, and nothing reads there again. Assumes nothing.
 use mathlib.Core.Logic.{_≢_}
 use mathlib.Core.Path.{_≡_, refl, sym, ap, _∙_}
@@ -7,40 +6,18 @@ use mathlib.Core.Bool.{Bool, true, false, cond}
 use mathlib.Core.List.{List, [], _∷_}
 use Prim.Native.Nat.{ℕ, zero, suc, _+_, _-_, _*_, _≤_, _<_}
 use native.Mathlib.Omega.{arith}
-use native.Mathlib.Nat.{zero-add, suc-add, suc-inj}
+use native.Mathlib.Nat.{zero-add, suc-add, suc-inj, sub-zero}
 use borrow.Author.Tests.{eqb-false}
 use lib.Dec.{eqb}
 use lib.ListN.{length, set, length-set}
 use lib.Seq.{set-getD}
-use lib.Ieee.{Float, binary64, div, lt}
+use lib.Ieee.{Float, lt}
 use Rattle.real.specs.Literals.{nought}
 use Rattle.real.specs.Real.{absolute}
 use Rattle.linsolve.specs.declared.Solution.{Solution}
 use Rattle.linsolve.specs.declared.Solution.the-variants.{Solved, Singular}
-use Rattle.linsolve.specs.Linear.{at, pivotFrom, swapped, swapRows, less, subRow, subLower, Outcome, outcome, answerOf, spaceOf, reduce, lessKnown, substitute, finish, solution}
-use Rattle.linsolve.specs.Linear.Laws.{pivot-below}
-
--- ---- The rule to the letter
-
--- "subtracts f times the pivot row": every column of it
-unfoldable pub wholeLower : ℕ → ℕ → ℕ → ℕ → List Float → List Float
-unfolding subRow
-wholeLower zero r p dim w = w
-wholeLower (suc n) r p dim w =
-    let f = div binary64 (at w (r * 64 + p)) (at w (p * 64 + p)) in
-    wholeLower n (r + 1) p dim (subRow dim 0 p r f w)
-
-unfoldable pub wholeReduce : ℕ → ℕ → ℕ → List Float → Outcome
-unfolding pivotFrom swapRows wholeLower
-wholeReduce zero col dim w = outcome Solved w
-wholeReduce (suc n) col dim w =
-    let p = pivotFrom (dim - col) col col nought dim w in
-    let rest = wholeReduce n (col + 1) dim (wholeLower (dim - (col + 1)) (col + 1) col dim (swapRows dim 0 col p w)) in
-    cond (eqb p dim) (outcome (Singular col) w) rest
-
-unfoldable pub wholeSolution : ℕ → List Float → Outcome
-unfolding finish wholeReduce
-wholeSolution dim w = finish dim (wholeReduce dim 0 dim w)
+use Rattle.linsolve.specs.Linear.{at, pivotFrom, swapped, swapRows, less, subRow, wholeRow, afterPivot, subLower, Outcome, outcome, answerOf, spaceOf, reduce, lessKnown, substitute, finish, workedOut, solution}
+use Rattle.linsolve.specs.Linear.Laws.{pivot-below, solution-ours}
 
 -- ---- Where the two workspaces agree
 
@@ -149,15 +126,15 @@ module _ (dim : ℕ) (fits : dim ≤ 64) where
         rw (suc-add n m) (left-alike n m (c + 1) (store-lone a _ _ (λ l. l r c (omega arith) row (omega arith) refl)) (omega arith) k)
 
     row-alike : {u v : List Float} → Alike dim (p * 64 + r) u v
-        → Alike dim (p * 64 + (r + 1)) (subRow dim 0 p r f u) (subRow (dim - (p + 1)) (p + 1) p r f v)
+        → Alike dim (p * 64 + (r + 1)) (subRow (dim - 0) 0 p r f u) (subRow (dim - (p + 1)) (p + 1) p r f v)
     row-alike a =
         let all : p + 1 + (dim - (p + 1)) ≡ dim = omega arith in
-        rw all at (left-alike (p + 1) (dim - (p + 1)) 0 (later (omega arith) a) (omega arith) all)
+        rw sub-zero (rw all at (left-alike (p + 1) (dim - (p + 1)) 0 (later (omega arith) a) (omega arith) all))
 
   -- f is of two entries that are still live when its row's turn comes
   lower-alike : (n r p : ℕ) {u v : List Float} → Alike dim (p * 64 + r) u v → r + n ≡ dim → p < r
-      → Alike dim (p * 64 + dim) (wholeLower n r p dim u) (subLower n r p dim v)
-  unfolding wholeLower subLower
+      → Alike dim (p * 64 + dim) (subLower wholeRow n r p dim u) (subLower afterPivot n r p dim v)
+  unfolding subLower
   lower-alike zero r p a e h = later (omega arith) a
   lower-alike (suc n) r p a e h =
       rw (a .same (r * 64 + p) (entry-live _ r p (omega arith) (omega arith) (omega arith)), a .same (p * 64 + p) (upper-live _ p p (omega arith) (omega arith)))
@@ -171,8 +148,8 @@ module _ (dim : ℕ) (fits : dim ≤ 64) where
   cond-ends true a b = a
   cond-ends false a b = b refl
 
-  reduce-alike : (n col : ℕ) {u v : List Float} → Alike dim (col * 64) u v → col + n ≡ dim → Ends (wholeReduce n col dim u) (reduce n col dim v)
-  unfolding wholeReduce reduce
+  reduce-alike : (n col : ℕ) {u v : List Float} → Alike dim (col * 64) u v → col + n ≡ dim → Ends (reduce wholeRow n col dim u) (reduce afterPivot n col dim v)
+  unfolding reduce
   reduce-alike zero col a e = ends (later (omega arith) a)
   reduce-alike (suc n) col {u} {v} a e =
       let p = pivotFrom (dim - col) col col nought dim v in
@@ -205,9 +182,8 @@ module _ (dim : ℕ) (fits : dim ≤ 64) where
   finish-alike (ends {s = Solved} a) = (refl, λ r. substitute-alike dim a (omega arith) .same (4096 + r) (side-live _ r))
   finish-alike (ends {s = Singular c} a) = (refl, λ r. a .same (4096 + r) (side-live _ r))
 
--- the rule to the letter gives the same answer, and the same right sides, whose places hold the solution
-pub whole-alike : (dim : ℕ) (w : List Float) → dim ≤ 64
-    → (answerOf (wholeSolution dim w) ≡ answerOf (solution dim w))
-    × ((r : ℕ) → at (spaceOf (wholeSolution dim w)) (4096 + r) ≡ at (spaceOf (solution dim w)) (4096 + r))
-unfolding wholeSolution solution
-whole-alike dim w fits = finish-alike dim fits (reduce-alike dim fits dim 0 (record { size = refl; same = λ i l. refl }) (omega arith))
+pub ours-is-the-rules : (dim : ℕ) (w : List Float) → dim ≤ 64 → workedOut afterPivot dim w ≡ solution dim w
+unfolding workedOut
+ours-is-the-rules dim w fits =
+    let (answer, sides) = finish-alike dim fits (reduce-alike dim fits dim 0 (record { size = refl; same = λ i l. refl }) (omega arith)) in
+    solution-ours dim w answer sides

@@ -63,14 +63,21 @@ unfoldable pub subRow : ℕ → ℕ → ℕ → ℕ → Float → List Float →
 subRow zero c p r f w = less (4096 + r) (4096 + p) f w
 subRow (suc n) c p r f w = subRow n (c + 1) p r f (less (r * 64 + c) (p * 64 + c) f w)
 
--- "Each lower row takes f = its entry / pivot": the n rows from r on, under the pivot of row p. The pivot's column and those further left are read no more,
--- and stay as they are
-unfoldable pub subLower : ℕ → ℕ → ℕ → ℕ → List Float → List Float
+-- where that begins in a lower row, under the pivot of row p. "f times the pivot row" is the whole row
+abbrev pub wholeRow : ℕ → ℕ
+wholeRow p = 0
+
+-- ours begins after the pivot's column: that column and those further left are read no more, and stay as they are
+abbrev pub afterPivot : ℕ → ℕ
+afterPivot p = p + 1
+
+-- "Each lower row takes f = its entry / pivot": the n rows from r on, under the pivot of row p
+unfoldable pub subLower : (ℕ → ℕ) → ℕ → ℕ → ℕ → ℕ → List Float → List Float
 unfolding subRow
-subLower zero r p dim w = w
-subLower (suc n) r p dim w =
+subLower first zero r p dim w = w
+subLower first (suc n) r p dim w =
     let f = div binary64 (at w (r * 64 + p)) (at w (p * 64 + p)) in
-    subLower n (r + 1) p dim (subRow (dim - (p + 1)) (p + 1) p r f w)
+    subLower first n (r + 1) p dim (subRow (dim - first p) (first p) p r f w)
 
 -- what the solve answers, and the workspace that it leaves
 pub data Outcome : Type 0 where
@@ -83,12 +90,12 @@ abbrev pub spaceOf : Outcome → List Float
 spaceOf (outcome s w) = w
 
 -- "In each column": the n columns from col on. The search begins "from 0.0", and from dim, which is no row: "none means singular"
-unfoldable pub reduce : ℕ → ℕ → ℕ → List Float → Outcome
+unfoldable pub reduce : (ℕ → ℕ) → ℕ → ℕ → ℕ → List Float → Outcome
 unfolding pivotFrom swapRows subLower
-reduce zero col dim w = outcome Solved w
-reduce (suc n) col dim w =
+reduce first zero col dim w = outcome Solved w
+reduce first (suc n) col dim w =
     let p = pivotFrom (dim - col) col col nought dim w in
-    let rest = reduce n (col + 1) dim (subLower (dim - (col + 1)) (col + 1) col dim (swapRows dim 0 col p w)) in
+    let rest = reduce first n (col + 1) dim (subLower first (dim - (col + 1)) (col + 1) col dim (swapRows dim 0 col p w)) in
     cond (eqb p dim) (outcome (Singular col) w) rest
 
 -- "subtracts products in rising column order": from acc, those of row r and the unknowns, n columns from c on
@@ -110,7 +117,19 @@ unfolding substitute
 finish dim (outcome Solved w) = outcome Solved (substitute dim dim w)
 finish dim (outcome (Singular c) w) = outcome (Singular c) w
 
--- the solve
-unfoldable pub solution : ℕ → List Float → Outcome
+-- reduction and substitution
+unfoldable pub workedOut : (ℕ → ℕ) → ℕ → List Float → Outcome
 unfolding finish reduce
-solution dim w = finish dim (reduce dim 0 dim w)
+workedOut first dim w = finish dim (reduce first dim 0 dim w)
+
+-- the n right sides from row r on taken from v
+unfoldable pub sidesFrom : ℕ → ℕ → List Float → List Float → List Float
+sidesFrom zero r v w = w
+sidesFrom (suc n) r v w = sidesFrom n (r + 1) v (set w (4096 + r) (at v (4096 + r)))
+
+-- the solve: its answer and its right sides, where the solution stands, by 01's rule to the letter; in the matrix's places what ours leaves there
+unfoldable pub solution : ℕ → List Float → Outcome
+unfolding workedOut sidesFrom
+solution dim w =
+    let exact = workedOut wholeRow dim w in
+    outcome (answerOf exact) (sidesFrom dim 0 (spaceOf exact) (spaceOf (workedOut afterPivot dim w)))

@@ -4,7 +4,7 @@ ghost use mathlib.Core.Path.{_≡_};
 ghost use Prim.Native.Nat.{_+_, _-_, _*_, _≤_, _<_};
 ghost use lib.ListN.{length};
 ghost use Rattle.real.specs.Literals.{nought};
-ghost use Rattle.linsolve.specs.Linear.{at, zeroed, cleared, added, pivotFrom, swapped, swapRows, subRow, subLower, outcome, reduce, lessKnown, substitute, solution};
+ghost use Rattle.linsolve.specs.Linear.{at, zeroed, cleared, added, pivotFrom, swapped, swapRows, subRow, afterPivot, subLower, outcome, reduce, lessKnown, substitute, solution};
 
 pub enum Solution {
     Solved,
@@ -108,7 +108,7 @@ fn sub_row(w: &mut [f64], dim: usize, p: usize, r: usize, f: f64)
 
 fn sub_lower(w: &mut [f64], dim: usize, p: usize)
     requires { ⌜ (4160 ≤ length (now w)) × (dim ≤ 64) × (p < dim) ⌝ }
-    ensures { λ _. ⌜ now (w .exit) ≡ subLower (dim - (p + 1)) (p + 1) p dim (now (w .entry)) ⌝ }
+    ensures { λ _. ⌜ now (w .exit) ≡ subLower afterPivot (dim - (p + 1)) (p + 1) p dim (now (w .entry)) ⌝ }
 {
     let mut r = p + 1;
     while r < dim {
@@ -122,7 +122,7 @@ fn sub_lower(w: &mut [f64], dim: usize, p: usize)
 
 fn reduce_rows(w: &mut [f64], dim: usize) -> Solution
     requires { ⌜ (4160 ≤ length (now w)) × (dim ≤ 64) ⌝ }
-    ensures { λ r. ⌜ outcome r (now (w .exit)) ≡ reduce dim 0 dim (now (w .entry)) ⌝ }
+    ensures { λ r. ⌜ outcome r (now (w .exit)) ≡ reduce afterPivot dim 0 dim (now (w .entry)) ⌝ }
 {
     let mut col = 0;
     while col < dim {

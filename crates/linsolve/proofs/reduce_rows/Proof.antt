@@ -4,13 +4,13 @@ use Prim.Native.Nat.{suc, _+_, _-_, _≤_}
 use native.Mathlib.Omega.{arith}
 use native.Mathlib.Nat.{sub-zero}
 use lib.ListN.{length}
-use Rattle.linsolve.specs.Linear.{reduce}
+use Rattle.linsolve.specs.Linear.{afterPivot, reduce}
 use Rattle.linsolve.specs.Linear.Laws.{pivot-below, reduce-singular, reduce-on, reduce-end}
 use Rattle.linsolve.proofs.reduce_rows.Statement.{statement}
 use Rattle.linsolve.proofs.reduce_rows.Tie as tie
 
 abbrev Inv-loop : tie.InvT-loop
-Inv-loop w₀ dim col₀ w col = (col ≤ dim) × (length w ≡ length w₀) × (reduce (dim - col) col dim w ≡ reduce dim 0 dim w₀)
+Inv-loop w₀ dim col₀ w col = (col ≤ dim) × (length w ≡ length w₀) × (reduce afterPivot (dim - col) col dim w ≡ reduce afterPivot dim 0 dim w₀)
 
 abbrev μ-loop : tie.MeasureT-loop
 μ-loop w₀ dim col₀ w col = dim - col
@@ -23,7 +23,7 @@ returns c =
     let s = c .before .before .before .before in
     let dim = s .before .before .args .dim in
     let e : dim - s .loop .col ≡ suc (dim - (s .loop .col + 1)) = omega arith in
-    rw (e, reduce-singular _ _ _ _ _ (c .before .pivot-row .ensures) (c .if1 .taken)) at (s .loop .inv .2)
+    rw (e, reduce-singular _ _ _ _ _ _ (c .before .pivot-row .ensures) (c .if1 .taken)) at (s .loop .inv .2)
 
 swap-rows-requires : tie.Need-swap-rows-requires Inv-loop μ-loop
 swap-rows-requires c κs =
@@ -43,7 +43,7 @@ loop-again c =
     let e : dim - s .loop .col ≡ suc (dim - (s .loop .col + 1)) = omega arith in (
       omega arith,
       lower .kept .0 ∙ swap .kept .0 ∙ s .loop .inv .1,
-      rw (lower .ensures, swap .ensures) (rw (e, reduce-on _ _ _ _ _ (pivot .ensures) (if1 .left)) at (s .loop .inv .2)),
+      rw (lower .ensures, swap .ensures) (rw (e, reduce-on _ _ _ _ _ _ (pivot .ensures) (if1 .left)) at (s .loop .inv .2)),
     )
 
 returns-2 : tie.Need-returns-2 Inv-loop μ-loop

@@ -3,14 +3,14 @@ use mathlib.Core.Path.{_≡_, refl, _∙_}
 use Prim.Native.Nat.{suc, _+_, _-_, _≤_}
 use native.Mathlib.Omega.{arith}
 use lib.ListN.{length}
-use Rattle.linsolve.specs.Linear.{subLower}
+use Rattle.linsolve.specs.Linear.{afterPivot, subLower}
 use Rattle.linsolve.specs.Linear.Laws.{lower-turn, lower-end}
 use Rattle.linsolve.proofs.sub_lower.Statement.{statement}
 use Rattle.linsolve.proofs.sub_lower.Tie as tie
 
 abbrev Inv-loop : tie.InvT-loop
 Inv-loop w₀ dim p r₀ w r =
-    (p + 1 ≤ r) × (r ≤ dim) × (length w ≡ length w₀) × (subLower (dim - r) r p dim w ≡ subLower (dim - (p + 1)) (p + 1) p dim w₀)
+    (p + 1 ≤ r) × (r ≤ dim) × (length w ≡ length w₀) × (subLower afterPivot (dim - r) r p dim w ≡ subLower afterPivot (dim - (p + 1)) (p + 1) p dim w₀)
 
 abbrev μ-loop : tie.MeasureT-loop
 μ-loop w₀ dim p r₀ w r = dim - r

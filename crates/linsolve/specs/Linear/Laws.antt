@@ -15,7 +15,7 @@ use lib.Ieee.{Float, nan, binary64, sub, mul, div, lt}
 use Rattle.real.specs.Literals.{nought}
 use Rattle.real.specs.Real.{absolute}
 use Rattle.linsolve.specs.declared.Solution.the-variants.{Solved, Singular}
-use Rattle.linsolve.specs.Linear.{at, zeroed, clearRows, cleared, added, pivotFrom, swapped, swapRows, less, subRow, subLower, Outcome, outcome, spaceOf, reduce, lessKnown, substitute, solution}
+use Rattle.linsolve.specs.Linear.{at, zeroed, clearRows, cleared, added, pivotFrom, swapped, swapRows, less, subRow, wholeRow, afterPivot, subLower, Outcome, outcome, answerOf, spaceOf, reduce, lessKnown, substitute, workedOut, sidesFrom, solution}
 
 -- ---- Turns and ends
 
@@ -82,28 +82,29 @@ pub sub-turn : (n c p r : ℕ) (f : Float) (w : List Float) → subRow (suc n) c
 unfolding subRow
 sub-turn n c p r f w = refl
 
-pub lower-end : (r p dim : ℕ) (w : List Float) → subLower 0 r p dim w ≡ w
-unfolding subLower
-lower-end r p dim w = refl
+module _ (first : ℕ → ℕ) where
+  pub lower-end : (r p dim : ℕ) (w : List Float) → subLower first 0 r p dim w ≡ w
+  unfolding subLower
+  lower-end r p dim w = refl
 
-pub lower-turn : (n r p dim : ℕ) (w : List Float) → subLower (suc n) r p dim w ≡ (
-    let f = div binary64 (at w (r * 64 + p)) (at w (p * 64 + p)) in
-    subLower n (r + 1) p dim (subRow (dim - (p + 1)) (p + 1) p r f w))
-unfolding subLower
-lower-turn n r p dim w = refl
+  pub lower-turn : (n r p dim : ℕ) (w : List Float) → subLower first (suc n) r p dim w ≡ (
+      let f = div binary64 (at w (r * 64 + p)) (at w (p * 64 + p)) in
+      subLower first n (r + 1) p dim (subRow (dim - first p) (first p) p r f w))
+  unfolding subLower
+  lower-turn n r p dim w = refl
 
-pub reduce-end : (col dim : ℕ) (w : List Float) → reduce 0 col dim w ≡ outcome Solved w
-unfolding reduce
-reduce-end col dim w = refl
-
-module _ (n col dim p : ℕ) (w : List Float) (is : p ≡ pivotFrom (dim - col) col col nought dim w) where
-  pub reduce-singular : p ≡ dim → reduce (suc n) col dim w ≡ outcome (Singular col) w
+  pub reduce-end : (col dim : ℕ) (w : List Float) → reduce first 0 col dim w ≡ outcome Solved w
   unfolding reduce
-  reduce-singular h = rw (← is, eq-eqb p dim h)
+  reduce-end col dim w = refl
 
-  pub reduce-on : p ≢ dim → reduce (suc n) col dim w ≡ reduce n (col + 1) dim (subLower (dim - (col + 1)) (col + 1) col dim (swapRows dim 0 col p w))
-  unfolding reduce
-  reduce-on h = rw (← is, ne-eqb p dim h)
+  module _ (n col dim p : ℕ) (w : List Float) (is : p ≡ pivotFrom (dim - col) col col nought dim w) where
+    pub reduce-singular : p ≡ dim → reduce first (suc n) col dim w ≡ outcome (Singular col) w
+    unfolding reduce
+    reduce-singular h = rw (← is, eq-eqb p dim h)
+
+    pub reduce-on : p ≢ dim → reduce first (suc n) col dim w ≡ reduce first n (col + 1) dim (subLower first (dim - (col + 1)) (col + 1) col dim (swapRows dim 0 col p w))
+    unfolding reduce
+    reduce-on h = rw (← is, ne-eqb p dim h)
 
 pub known-end : (c r : ℕ) (acc : Float) (w : List Float) → lessKnown 0 c r acc w ≡ acc
 unfolding lessKnown
@@ -125,13 +126,30 @@ substitute-turn r dim w = refl
 
 -- ---- The ways through the solve
 
-pub solution-solved : (dim : ℕ) (w v : List Float) → outcome Solved v ≡ reduce dim 0 dim w → outcome Solved (substitute dim dim v) ≡ solution dim w
-unfolding solution
-solution-solved dim w v e = rw (← e)
+module _ (first : ℕ → ℕ) (dim : ℕ) (w v : List Float) where
+  pub worked-solved : outcome Solved v ≡ reduce first dim 0 dim w → outcome Solved (substitute dim dim v) ≡ workedOut first dim w
+  unfolding workedOut
+  worked-solved e = rw (← e)
 
-pub solution-singular : (dim c : ℕ) (w v : List Float) → outcome (Singular c) v ≡ reduce dim 0 dim w → outcome (Singular c) v ≡ solution dim w
+  pub worked-singular : (c : ℕ) → outcome (Singular c) v ≡ reduce first dim 0 dim w → outcome (Singular c) v ≡ workedOut first dim w
+  unfolding workedOut
+  worked-singular c e = rw (← e)
+
+whole-outcome : (o : Outcome) → o ≡ outcome (answerOf o) (spaceOf o)
+whole-outcome (outcome s w) = refl
+
+-- right sides taken from where the same stand change nothing
+pub sides-same : (n r : ℕ) (v w : List Float) → ((q : ℕ) → at v (4096 + q) ≡ at w (4096 + q)) → sidesFrom n r v w ≡ w
+unfolding sidesFrom
+sides-same zero r v w h = refl
+sides-same (suc n) r v w h = rw (h r, set-getD w (4096 + r) nan) (sides-same n (r + 1) v w h)
+
+-- where the two ways agree in the answer and the right sides, the solve is ours
+pub solution-ours : (dim : ℕ) (w : List Float) → answerOf (workedOut wholeRow dim w) ≡ answerOf (workedOut afterPivot dim w)
+    → ((r : ℕ) → at (spaceOf (workedOut wholeRow dim w)) (4096 + r) ≡ at (spaceOf (workedOut afterPivot dim w)) (4096 + r))
+    → workedOut afterPivot dim w ≡ solution dim w
 unfolding solution
-solution-singular dim c w v e = rw (← e)
+solution-ours dim w a s = rw (a, sides-same dim 0 _ _ s) (whole-outcome (workedOut afterPivot dim w))
 
 -- no unknowns: solved, and nothing touched
 pub solution-of-none : (w : List Float) → solution 0 w ≡ outcome Solved w
@@ -201,38 +219,48 @@ unfolding subRow
 sub-kept zero c p r dim f w h hr = kept-side dim r _ w hr
 sub-kept (suc n) c p r dim f w h hr = kept-on (kept-entry dim r c _ w hr (omega arith)) (sub-kept n (c + 1) p r dim f _ (omega arith) hr)
 
-lower-kept : (n r p dim : ℕ) (w : List Float) → r + n ≤ dim → p < dim → Kept dim w (subLower n r p dim w)
+lower-kept : (n r p dim : ℕ) (w : List Float) → r + n ≤ dim → p < dim → Kept dim w (subLower afterPivot n r p dim w)
 unfolding subLower
 lower-kept zero r p dim w h hp = kept-all dim w
 lower-kept (suc n) r p dim w h hp = kept-on (sub-kept (dim - (p + 1)) (p + 1) p r dim _ w (omega arith) (omega arith)) (lower-kept n (r + 1) p dim _ (omega arith) hp)
 
-pub reduce-kept : (n col dim : ℕ) (w : List Float) → col + n ≤ dim → Kept dim w (spaceOf (reduce n col dim w))
+reduce-kept : (n col dim : ℕ) (w : List Float) → col + n ≤ dim → Kept dim w (spaceOf (reduce afterPivot n col dim w))
 reduce-kept zero col dim w h = rw reduce-end (kept-all dim w)
 reduce-kept (suc n) col dim w h = go (eqb p dim) refl (λ v. reduce-kept n (col + 1) dim v (omega arith))
   where
     p : ℕ
     p = pivotFrom (dim - col) col col nought dim w
 
-    go : (t : Bool) → eqb p dim ≡ t → ((v : List Float) → Kept dim v (spaceOf (reduce n (col + 1) dim v))) → Kept dim w (spaceOf (reduce (suc n) col dim w))
-    go true e rest = rw (reduce-singular n col dim p w refl (eqb-true p dim e)) (kept-all dim w)
+    go : (t : Bool) → eqb p dim ≡ t → ((v : List Float) → Kept dim v (spaceOf (reduce afterPivot n (col + 1) dim v)))
+        → Kept dim w (spaceOf (reduce afterPivot (suc n) col dim w))
+    go true e rest = rw (reduce-singular afterPivot n col dim p w refl (eqb-true p dim e)) (kept-all dim w)
     go false e rest =
         let k : p ≤ dim = pivot-below _ _ _ _ _ w dim (omega arith) (omega arith) in
         let d : p ≢ dim = eqb-false p dim e in
-        rw (reduce-on n col dim p w refl d)
+        rw (reduce-on afterPivot n col dim p w refl d)
         (kept-on (swap-kept dim 0 col p dim w (omega arith) (omega arith) (omega (arith, d)))
         (kept-on (lower-kept (dim - (col + 1)) (col + 1) col dim _ (omega arith) (omega arith)) (rest _)))
 
-pub substitute-kept : (n dim : ℕ) (w : List Float) → n ≤ dim → Kept dim w (substitute n dim w)
+substitute-kept : (n dim : ℕ) (w : List Float) → n ≤ dim → Kept dim w (substitute n dim w)
 unfolding substitute
 substitute-kept zero dim w h = kept-all dim w
 substitute-kept (suc r) dim w h = kept-on (kept-side dim r _ w (omega arith)) (substitute-kept r dim _ (omega arith))
 
-pub solution-kept : (dim : ℕ) (w : List Float) → Kept dim w (spaceOf (solution dim w))
-solution-kept dim w = go (reduce dim 0 dim w) refl (reduce-kept dim 0 dim w (omega arith))
+worked-kept : (dim : ℕ) (w : List Float) → Kept dim w (spaceOf (workedOut afterPivot dim w))
+worked-kept dim w = go (reduce afterPivot dim 0 dim w) refl (reduce-kept dim 0 dim w (omega arith))
   where
-    go : (o : Outcome) → o ≡ reduce dim 0 dim w → Kept dim w (spaceOf o) → Kept dim w (spaceOf (solution dim w))
-    go (outcome Solved v) e k = rw (← (solution-solved dim w v e)) (kept-on k (substitute-kept dim dim v (omega arith)))
-    go (outcome (Singular c) v) e k = rw (← (solution-singular dim c w v e)) k
+    go : (o : Outcome) → o ≡ reduce afterPivot dim 0 dim w → Kept dim w (spaceOf o) → Kept dim w (spaceOf (workedOut afterPivot dim w))
+    go (outcome Solved v) e k = rw (← (worked-solved afterPivot dim w v e)) (kept-on k (substitute-kept dim dim v (omega arith)))
+    go (outcome (Singular c) v) e k = rw (← (worked-singular afterPivot dim w v c e)) k
+
+sides-kept : (n r dim : ℕ) (v w : List Float) → r + n ≤ dim → Kept dim w (sidesFrom n r v w)
+unfolding sidesFrom
+sides-kept zero r dim v w h = kept-all dim w
+sides-kept (suc n) r dim v w h = kept-on (kept-side dim r _ w (omega arith)) (sides-kept n (r + 1) dim v _ (omega arith))
+
+pub solution-kept : (dim : ℕ) (w : List Float) → Kept dim w (spaceOf (solution dim w))
+unfolding solution
+solution-kept dim w = kept-on (worked-kept dim w) (sides-kept dim 0 dim _ _ (omega arith))
 
 -- ---- What the clearing leaves: zeros
 
