@@ -5,9 +5,10 @@ use Prim.Native.Nat.{ℕ, zero, suc, _<_, _-_}
 use mathlib.Core.Path.{_≡_}
 use mathlib.Core.Logic.{_↔_}
 use mathlib.Core.Bool.{Bool, cond}
-use mathlib.Core.List.{List, [], _∷_, _++_}
+use mathlib.Core.List.{List, _++_}
 use lib.ListN.{length, getD, replicate}
 use lib.Dec.{eqb}
+use Rattle.real.specs.Each.{each}
 
 -- ---- the meaning
 
@@ -86,11 +87,6 @@ labelBy g i = tally (isFirst g) (firstOf g i)
 -- the label of each bus
 abbrev pub labelOf : List ℕ → List ℕ → ℕ → ℕ
 labelOf from to = labelBy (islandOf from to)
-
--- the n numbers f 0, f 1, ..
-unfoldable pub each : ℕ → (ℕ → ℕ) → List ℕ
-each zero f = []
-each (suc k) f = each k f ++ (f k ∷ [])
 
 -- the labels of n buses, in bus order
 unfoldable pub labelsOf : ℕ → List ℕ → List ℕ → List ℕ

@@ -1,8 +1,9 @@
 // Islands: the buses that lines join, numbered in the order of each island's first bus.
 ghost use mathlib.Core.Path.{_≡_};
 ghost use Prim.Native.Nat.{ℕ, _<_, _≤_};
+ghost use Rattle.real.specs.Each.{each};
 ghost use Rattle.islands.specs.Forest.{Forest, Grown, joinedRoot, orInsert};
-ghost use Rattle.islands.specs.Islands.{Ends, islandOf, labelBy, labelsOf, each, tableOf};
+ghost use Rattle.islands.specs.Islands.{Ends, islandOf, labelBy, labelsOf, tableOf};
 
 // The root above `node`. Each bus passed is hung one place higher on the way.
 fn find(parent: &mut [usize; 32], node: usize) -> usize

@@ -1,10 +1,11 @@
 -- 01, "Kinds": Q, then V where flagged (byte V; any other is Q), then slack where listed.
 pub mod Laws
-use Prim.Native.Nat.{ℕ, zero, suc}
-use mathlib.Core.Bool.{Bool, false, _||_, cond}
+use Prim.Native.Nat.{ℕ}
+use mathlib.Core.Bool.{Bool, cond}
 use mathlib.Core.List.{List}
 use lib.Dec.{eqb}
 use lib.ListN.{length, getD}
+use Rattle.real.specs.Any.{anyBelow}
 use Rattle.layout.specs.declared.BusKind.{BusKind}
 use Rattle.layout.specs.declared.BusKind.the-variants.{Slack, Pv, Pq}
 use Rattle.layout.specs.Table.{table}
@@ -13,10 +14,9 @@ use Rattle.layout.specs.Table.{table}
 abbrev pub flagKind : ℕ → BusKind
 flagKind byte = cond (eqb byte 86) Pv Pq
 
--- whether bus b stands among the first k slack rows
-unfoldable pub listed : ℕ → List ℕ → ℕ → Bool
-listed zero slacks b = false
-listed (suc k) slacks b = listed k slacks b || eqb b (getD slacks k 0)
+-- whether bus b stands among the first k of these
+abbrev pub listed : ℕ → List ℕ → ℕ → Bool
+listed k buses b = anyBelow k (λ i. eqb b (getD buses i 0))
 
 -- the kind of bus b, after the first k slack rows
 abbrev pub kindAt : ℕ → List ℕ → List ℕ → ℕ → BusKind

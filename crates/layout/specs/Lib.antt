@@ -1,5 +1,4 @@
 pub mod Table
-pub mod Counting
 pub mod Kinds
 pub mod Layout
 pub mod Residual

@@ -12,6 +12,7 @@ use lib.Dec.{eqb}
 use lib.ListN.{length, set, length-set}
 use lib.Seq.{set-getD}
 use lib.Ieee.{Float, lt}
+use Rattle.real.specs.Tests.{cond-either}
 use Rattle.real.specs.Literals.{nought}
 use Rattle.real.specs.Real.{absolute}
 use Rattle.linsolve.specs.declared.Solution.{Solution}
@@ -66,17 +67,13 @@ swapped-alike a i j there back = store (store a i _ _ (λ l. a .same j (there l)
 
 -- ---- The steps of the solve keep it so
 
-cond-from : (t : Bool) (x y m : ℕ) → m ≤ x → m ≤ y → m ≤ cond t x y
-cond-from true x y m h k = h
-cond-from false x y m h k = k
-
 -- no row above the first that is looked at becomes the pivot's
 pivot-from : (n r col : ℕ) (best : Float) (p : ℕ) (w : List Float) (m : ℕ) → m ≤ r → m ≤ p → m ≤ pivotFrom n r col best p w
 unfolding pivotFrom
 pivot-from zero r col best p w m h k = k
 pivot-from (suc n) r col best p w m h k =
     let above = lt best (absolute (at w (r * 64 + col))) in
-    pivot-from n (r + 1) col _ (cond above r p) w m (omega arith) (cond-from above r p m h k)
+    pivot-from n (r + 1) col _ (cond above r p) w m (omega arith) (cond-either (λ q. m ≤ q) above h k)
 
 module _ (dim : ℕ) (fits : dim ≤ 64) where
   side-live : (t r : ℕ) → Live dim t (4096 + r)

@@ -3,15 +3,14 @@
 use mathlib.Core.Path.{_≡_, sym, _∙_}
 use mathlib.Core.List.{List}
 use Prim.Native.Nat.{ℕ, _*_}
-use native.Mathlib.Omega.{arith}
 use lib.Ieee.{Float, nan}
-use lib.Seq.{ext-getD}
+use Rattle.real.specs.Each.Laws.{is-each}
 use Rattle.linsolve.specs.declared.Solution.{Solution}
 use Rattle.linsolve.specs.Linear.{outcome, solution}
 use Rattle.linsolve_vectors.specs.Told.{sizeOf, Holds, numberOf, Agrees}
 
 one-space : {w v : List Float} {s : List ℕ} {from dim : ℕ} → Holds w s from dim → Holds v s from dim → w ≡ v
-one-space {w} {v} a b = ext-getD nan w v (a .size ∙ sym (b .size)) (λ i h. let k = a .size in a .each i (omega arith) ∙ sym (b .each i (omega arith)))
+one-space {w} {v} a b = is-each 4224 _ nan w (a .size) (a .each) ∙ sym (is-each 4224 _ nan v (b .size) (b .each))
 
 module _ (s : List ℕ) (dim answer : ℕ) (w v : List Float) (found : Solution) (began : Holds w s 0 dim) (is : outcome found v ≡ solution dim w) where
   pub agreement : numberOf found ≡ answer → Holds v s (sizeOf dim * 8) dim → Agrees s dim answer

@@ -1,11 +1,12 @@
 -- 01, "Limits": what becomes of one bus in a round, and of all of them. Every bus is tested against the figures that Newton's end gives.
 pub mod Laws
-use Prim.Native.Nat.{ℕ, zero, suc}
-use mathlib.Core.Bool.{Bool, true, false, cond, _||_}
+use Prim.Native.Nat.{ℕ}
+use mathlib.Core.Bool.{Bool, true, false, cond}
 use mathlib.Core.List.{List}
 use lib.Dec.{eqb}
 use lib.ListN.{getD}
 use lib.Ieee.{Float, nan, binary64, add, sub, lt}
+use Rattle.real.specs.Any.{anyBelow}
 use Rattle.real.specs.Literals.{margin}
 use Rattle.layout.specs.declared.BusKind.{BusKind}
 use Rattle.layout.specs.declared.BusKind.the-variants.{Slack, Pv, Pq}
@@ -94,14 +95,12 @@ moveAt kinds l t qd q vm hold b =
 unfoldable pub movesOf : ℕ → List BusKind → Limits → Track → List Float → List Float → List Float → List Float → List Move
 movesOf n kinds l t qd q vm hold = table n Keep (moveAt kinds l t qd q vm hold)
 
--- whether any of the first k buses has a generator
-unfoldable pub anyGenerator : ℕ → List Bool → Bool
-anyGenerator zero has = false
-anyGenerator (suc k) has = anyGenerator k has || getD has k false
+-- whether any of the n buses has a generator, and whether any moves
+abbrev pub anyGenerator : ℕ → List Bool → Bool
+anyGenerator n has = anyBelow n (λ b. getD has b false)
 
-unfoldable pub anyMove : ℕ → List Move → Bool
-anyMove zero ms = false
-anyMove (suc k) ms = anyMove k ms || isMove (getD ms k Keep)
+abbrev pub anyMove : ℕ → List Move → Bool
+anyMove n ms = anyBelow n (λ b. isMove (getD ms b Keep))
 
 unfoldable pub kindsAfter : ℕ → List BusKind → List Move → List BusKind
 kindsAfter n kinds ms = stores (λ b. kindAfter (getD ms b Keep) (kindOf kinds b)) n kinds

@@ -1,11 +1,12 @@
 -- 01, "Newton": a trial, and what uses up its try.
 pub mod Laws
-use Prim.Native.Nat.{ℕ, zero, suc, _+_}
-use mathlib.Core.Bool.{Bool, false, _||_, cond}
+use Prim.Native.Nat.{ℕ, _+_}
+use mathlib.Core.Bool.{Bool, _||_, cond}
 use mathlib.Core.List.{List}
 use lib.Dec.{ltb}
 use lib.ListN.{getD}
 use lib.Ieee.{Float, nan, binary64, add, mul, le, isNan}
+use Rattle.real.specs.Any.{anyBelow}
 use Rattle.real.specs.Literals.{nought}
 use Rattle.layout.specs.declared.AcPfLayout.{AcPfLayout}
 use Rattle.layout.specs.Layout.{none}
@@ -32,6 +33,5 @@ unfoldable pub unfitAt : Float → Float → Bool
 unfitAt m a = isNan m || (le m nought || isNan a)
 
 -- "any", slack buses included
-unfoldable pub unfitTo : ℕ → Point → Bool
-unfitTo zero p = false
-unfitTo (suc k) p = unfitTo k p || unfitAt (getD (p .vm) k nan) (getD (p .va) k nan)
+abbrev pub unfitTo : ℕ → Point → Bool
+unfitTo n p = anyBelow n (λ b. unfitAt (getD (p .vm) b nan) (getD (p .va) b nan))

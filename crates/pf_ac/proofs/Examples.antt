@@ -7,9 +7,9 @@ use mathlib.Core.Path.{_≡_, refl, sym, ap}
 use native.Mathlib.Omega.{arith}
 use lib.ListN.{getD}
 use lib.Ieee.{Float, nan, ofBits, lt}
+use Rattle.real.specs.Any.{anyBelow}
 use Rattle.real.specs.Literals.{nought, one}
 use Rattle.layout.specs.Table.{Below}
-use Rattle.layout.specs.Kinds.{listed}
 use Rattle.pf_ac.specs.declared.AcStart.the-variants.{Flat}
 use Rattle.pf_ac.specs.Network.{Network, network, Ready}
 use Rattle.pf_ac.specs.Network.Withheld.{Alike}
@@ -52,7 +52,7 @@ sample-ready x =
     numbers = below-3 (λ i. getD (0 ∷ 1 ∷ 2 ∷ []) i 0 < 3) (omega arith) (omega arith) (omega arith)
 
 pub sample-alike : (x y : Float) → Alike (sample x) (sample y)
-unfolding listed
+unfolding anyBelow
 sample-alike x y =
     record {
       kind = refl;

@@ -3,17 +3,17 @@ pub mod Laws
 use Prim.Native.Nat.{ℕ, zero, suc, _<_}
 use mathlib.Core.Path.{_≡_}
 use mathlib.Core.Logic.{_⊎_}
-use mathlib.Core.Bool.{Bool, true, false, _||_, cond}
+use mathlib.Core.Bool.{Bool, true, false, cond}
 use mathlib.Core.List.{List}
 use lib.ListN.{getD}
 use lib.Ieee.{Float, nan, lt, isNan}
+use Rattle.real.specs.Any.{anyBelow}
 use Rattle.real.specs.Literals.{nought}
 use Rattle.real.specs.Real.{absolute, larger}
 
 -- whether any entry is NaN
-unfoldable pub anyNan : ℕ → List Float → Bool
-anyNan zero l = false
-anyNan (suc k) l = anyNan k l || isNan (getD l k nan)
+abbrev pub anyNan : ℕ → List Float → Bool
+anyNan n l = anyBelow n (λ i. isNan (getD l i nan))
 
 -- the largest absolute value, 0.0 if empty
 unfoldable pub largest : ℕ → List Float → Float
@@ -22,7 +22,7 @@ largest zero l = nought
 largest (suc k) l = larger (largest k l) (absolute (getD l k nan))
 
 unfoldable pub normOf : ℕ → List Float → Float
-unfolding anyNan largest
+unfolding anyBelow largest
 normOf n l = cond (anyNan n l) nan (largest n l)
 
 -- 01's sentence as facts of a number r. `norm-is` of Norm/Laws.antt says that normOf has them.

@@ -15,14 +15,18 @@ use Rattle.starts.specs.declared.References.{References}
 abbrev pub noSlack : ℕ
 noSlack = 32
 
--- of the island numbered l, after the first k slack rows: its slack, and its reference. `label` numbers the buses' islands
-unfoldable pub slackOf : ℕ → List ℕ → (ℕ → ℕ) → ℕ → ℕ
-slackOf zero slacks label l = noSlack
-slackOf (suc k) slacks label l = cond (eqb l (label (getD slacks k 0))) (getD slacks k 0) (slackOf k slacks label l)
+-- of the island numbered l, what the later of the first k slack rows at its buses gives: f of the row, or z where there is none. `label` numbers the
+-- buses' islands
+unfoldable pub laterRow : {A : Type 0} → ℕ → List ℕ → (ℕ → ℕ) → (ℕ → A) → A → ℕ → A
+laterRow zero slacks label f z l = z
+laterRow (suc k) slacks label f z l = cond (eqb l (label (getD slacks k 0))) (f k) (laterRow k slacks label f z l)
 
-unfoldable pub angleOf : ℕ → List ℕ → List Float → (ℕ → ℕ) → ℕ → Float
-angleOf zero slacks angles label l = nought
-angleOf (suc k) slacks angles label l = cond (eqb l (label (getD slacks k 0))) (getD angles k nan) (angleOf k slacks angles label l)
+-- its slack, and its reference
+abbrev pub slackOf : ℕ → List ℕ → (ℕ → ℕ) → ℕ → ℕ
+slackOf k slacks label = laterRow k slacks label (λ i. getD slacks i 0) noSlack
+
+abbrev pub angleOf : ℕ → List ℕ → List Float → (ℕ → ℕ) → ℕ → Float
+angleOf k slacks angles label = laterRow k slacks label (λ i. getD angles i nan) nought
 
 -- of bus b: its island's slack, and its island's reference angle
 abbrev pub slackFor : List ℕ → List ℕ → List ℕ → ℕ → ℕ

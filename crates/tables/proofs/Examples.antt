@@ -10,16 +10,18 @@ use Rattle.real.specs.Paper.{refused}
 use Rattle.real.specs.Norm.{normOf}
 use Rattle.real.specs.Real.{absolute}
 use Rattle.trig.specs.Sine.{sinCosOf}
-use Rattle.islands.specs.Islands.{groupOf, lowest, tally, each, labelsOf}
-use Rattle.layout.specs.Kinds.{listed, kindsOf}
+use Rattle.real.specs.Any.{anyBelow}
+use Rattle.real.specs.Each.{each}
+use Rattle.islands.specs.Islands.{groupOf, lowest, tally, labelsOf}
+use Rattle.layout.specs.Kinds.{kindsOf}
 use Rattle.layout.specs.Layout.{angleCount, magnitudeCount, layoutOf}
-use Rattle.layout.specs.Limits.{sumAt, hasGen, limitsOf}
+use Rattle.layout.specs.Limits.{sumAt, limitsOf}
 use Rattle.layout.specs.Table.{stores}
 use Rattle.injections.specs.Injections.{voltagesOf, currentsTo, phasorsOf, injectedOf}
 use Rattle.newton.specs.Newton.{measuredOf, stepsFrom, newtonOf}
-use Rattle.moves.specs.Moves.{moveOf, movesOf, anyMove, pinned, lettersOf}
+use Rattle.moves.specs.Moves.{moveOf, movesOf, pinned, lettersOf}
 use Rattle.qlim.specs.Rounds.{roundOf, roundsFrom, qlimOf}
-use Rattle.starts.specs.References.{angleOf, referencesOf}
+use Rattle.starts.specs.References.{laterRow, referencesOf}
 use Rattle.starts.specs.Starts.{caseOf, flatOf}
 use Rattle.pf_ac.specs.Network.{Network, network, acPfOf}
 use Rattle.pf_ac.specs.Search.{startOf, betterOf, tryOf, searchFrom, searchOf}
@@ -38,7 +40,7 @@ row o = outs (set (o .vm) 0 (double 1)) (set (o .va) 0 (double 0)) (set (o .p) 0
 
 -- whatever stood in the columns and in the workspace
 pub listing-solved : (o : Outs) (w : List Float) → roomy listing o w ≡ true → solveOf listing o w ≡ answer (ok 0 (double 0)) (row o) (zeros w)
-unfolding normOf absolute sinCosOf groupOf lowest tally each labelsOf listed kindsOf angleCount magnitudeCount layoutOf sumAt hasGen limitsOf stores voltagesOf currentsTo phasorsOf injectedOf measuredOf stepsFrom newtonOf moveOf movesOf anyMove pinned lettersOf roundOf roundsFrom qlimOf angleOf referencesOf flatOf acPfOf startOf betterOf tryOf searchFrom searchOf both allBelow counted numbered writtenOf ranOf solveOf ofInt ofBits add sub mul div neg lt le isNan
+unfolding normOf absolute sinCosOf groupOf lowest tally each labelsOf anyBelow kindsOf angleCount magnitudeCount layoutOf sumAt limitsOf stores voltagesOf currentsTo phasorsOf injectedOf measuredOf stepsFrom newtonOf moveOf movesOf pinned lettersOf roundOf roundsFrom qlimOf laterRow referencesOf flatOf acPfOf startOf betterOf tryOf searchFrom searchOf both allBelow counted numbered writtenOf ranOf solveOf ofInt ofBits add sub mul div neg lt le isNan
 listing-solved o w h = ap (λ (r : Bool). cond r (ranOf listing o w (acPfOf listing w)) (answer (refused 9 []) o w)) h
 
 -- no bus, and so no row in any table
@@ -47,6 +49,6 @@ empty start = network [] [] [] [] [] [] [] [] [] [] [] [] [] [] [] [] [] [] [] s
 
 -- "Zero buses is solved, with nothing in the answer": the columns stay as they were
 pub no-buses-solved : (start : AcStart) (o : Outs) (w : List Float) → roomy (empty start) o w ≡ true → solveOf (empty start) o w ≡ answer (ok 0 (double 0)) o (zeros w)
-unfolding normOf absolute sinCosOf groupOf lowest tally each labelsOf listed kindsOf angleCount magnitudeCount layoutOf sumAt hasGen limitsOf stores voltagesOf currentsTo phasorsOf injectedOf measuredOf stepsFrom newtonOf moveOf movesOf anyMove pinned lettersOf roundOf roundsFrom qlimOf angleOf referencesOf flatOf acPfOf startOf betterOf tryOf searchFrom searchOf both allBelow counted numbered writtenOf ranOf solveOf ofInt ofBits add sub mul div neg lt le isNan caseOf
+unfolding normOf absolute sinCosOf groupOf lowest tally each labelsOf anyBelow kindsOf angleCount magnitudeCount layoutOf sumAt limitsOf stores voltagesOf currentsTo phasorsOf injectedOf measuredOf stepsFrom newtonOf moveOf movesOf pinned lettersOf roundOf roundsFrom qlimOf laterRow referencesOf flatOf acPfOf startOf betterOf tryOf searchFrom searchOf both allBelow counted numbered writtenOf ranOf solveOf ofInt ofBits add sub mul div neg lt le isNan caseOf
 no-buses-solved Flat o w h = ap (λ (r : Bool). cond r (ranOf (empty Flat) o w (acPfOf (empty Flat) w)) (answer (refused 9 []) o w)) h
 no-buses-solved Case o w h = ap (λ (r : Bool). cond r (ranOf (empty Case) o w (acPfOf (empty Case) w)) (answer (refused 9 []) o w)) h

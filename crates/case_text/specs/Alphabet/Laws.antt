@@ -10,7 +10,7 @@ use lib.Seq.{slice}
 use borrow.Author.Tests.{lt-ltb, le-ltb}
 use Rattle.fields.specs.Cut.{has, Found}
 use Rattle.fields.specs.Cut.Laws.{slice-step, slice-none}
-use Rattle.rows.specs.Line.Laws.{below-or}
+use Rattle.real.specs.Tests.{below-or}
 use Rattle.case_text.specs.Alphabet.{alphabet, knownOf}
 
 -- a byte is of the alphabet where it is found among its 22

@@ -1,21 +1,19 @@
 -- A line's field by its number; a column's turns, for any kind of element; and that a field read as a real or `?` is the real, where it is one.
 -- Assumes nothing.
 use mathlib.Core.Path.{_≡_, refl, sym, _∙_}
-use mathlib.Core.Bool.{true, false, and-false}
+use mathlib.Core.Bool.{true, false}
 use mathlib.Core.Logic.{⊎-elim}
 use mathlib.Core.List.{List, [], _∷_}
 use Prim.Native.Nat.{ℕ, zero, suc, _+_, _-_, _≤_, _<_}
 use native.Mathlib.Omega.{arith}
 use native.Mathlib.Numerals.{add-one}
-use lib.Dec.{eqb}
 use lib.ListN.{length, getD, set, length-set}
 use lib.Seq.{slice, sets}
-use borrow.Author.Tests.{eqb-true}
 use Rattle.fields.specs.Cut.{only, has, pieces, Found}
-use Rattle.real.specs.Tests.{decided, true-false, and-left}
+use Rattle.fields.specs.Cut.Laws.{only-is}
+use Rattle.real.specs.Tests.{decided, true-false, below-or}
 use Rattle.fields.specs.Digits.{digits}
 use Rattle.fields.specs.Real.{amountOf, realOf, orNanOf, isReal}
-use Rattle.rows.specs.Line.Laws.{below-or}
 use Rattle.rows.specs.Rows.Laws.{rows-more, rows-room, rows-last, rows-end}
 use Rattle.columns.specs.Columns.{rowCount, columnOf, filled}
 
@@ -79,9 +77,7 @@ module _ {A : Type 0} (g : List ℕ → A) (s : List ℕ) (a e : ℕ) (old : Lis
 
 mark-wrong : (l : List ℕ) → only 63 l ≡ true → isReal (realOf l) ≡ false
 unfolding has digits amountOf
-mark-wrong [] h = absurd (true-false h refl)
-mark-wrong (b ∷ []) h = rw (eqb-true b 63 (and-left _ _ h))
-mark-wrong (b ∷ c ∷ r) h = absurd (true-false h (and-false (eqb b 63)))
+mark-wrong l h = rw (only-is 63 l h)
 
 pub plain-value : (l : List ℕ) → isReal (realOf l) ≡ true → orNanOf l ≡ realOf l
 plain-value l h = ⊎-elim (λ q. absurd (true-false h (mark-wrong l q))) (λ q. rw q) (decided (only 63 l))

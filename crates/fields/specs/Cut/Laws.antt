@@ -1,6 +1,6 @@
 -- Laws on a part of a list, cut at a byte: what `find` shows of the place it gives. Assumes nothing.
 use mathlib.Core.Path.{_≡_, refl, sym, ap, _∙_}
-use mathlib.Core.Bool.{true, false}
+use mathlib.Core.Bool.{true, false, and-false}
 use mathlib.Core.Logic.{⊎-elim}
 use mathlib.Core.List.{List, [], _∷_}
 use Prim.Native.Nat.{ℕ, suc, _+_, _≤_, _<_}
@@ -9,9 +9,20 @@ use native.Mathlib.Omega.{arith}
 use lib.Dec.{eqb}
 use lib.ListN.{length, getD, take, drop}
 use lib.Seq.{slice, slice-cons, slice-empty, length-slice, take-take, take-add, drop-at, drop-drop, length-take-le}
-use borrow.Author.Tests.{eq-eqb, ne-eqb}
-use Rattle.real.specs.Tests.{decided, true-false}
-use Rattle.fields.specs.Cut.{empty, upto, past, has, pieces, onto, Found}
+use borrow.Author.Tests.{eq-eqb, ne-eqb, eqb-true}
+use Rattle.real.specs.Tests.{decided, true-false, and-left}
+use Rattle.fields.specs.Cut.{empty, only, upto, past, has, pieces, onto, Found}
+
+-- ---- lists that a test tells
+
+pub empty-is : (l : List ℕ) → empty l ≡ true → l ≡ []
+empty-is [] h = refl
+empty-is (b ∷ r) h = absurd (true-false h refl)
+
+pub only-is : (x : ℕ) (l : List ℕ) → only x l ≡ true → l ≡ x ∷ []
+only-is x [] h = absurd (true-false h refl)
+only-is x (b ∷ []) h = rw (eqb-true b x (and-left _ _ h))
+only-is x (b ∷ c ∷ r) h = absurd (true-false h (and-false (eqb b x)))
 
 -- ---- a part of a list
 

@@ -10,7 +10,7 @@ use lib.Dec.{lit<, leb}
 use lib.ListN.{length, getD}
 use lib.Seq.{slice, slice-empty}
 use borrow.Author.Tests.{le-leb, lt-leb, leb-true}
-use Rattle.real.specs.Tests.{decided, and-left, and-right}
+use Rattle.real.specs.Tests.{decided, no-case, and-left, and-right}
 use Rattle.fields.specs.Cut.Laws.{slice-step}
 use Rattle.fields.specs.Digits.{digitsOf, digits, digit, number}
 use Rattle.fields.specs.declared.Digits.{Digits}
@@ -39,11 +39,11 @@ digits-end s i e m h k = let q : e ≡ i = omega arith in rw (q, slice-empty i s
 
 pub digitsOf-other : (m : ℕ) (l : List ℕ) → digitsOf m l ≡ Digits.Other → digits l ≡ false
 digitsOf-other m l h =
-    ⊎-elim (λ t. let e : Digits.Number (number m l) ≡ Digits.Other = rw t at h in let w : _≡_ {A = ℕ} 0 1 = cc in absurd (omega arith)) (λ t. t) (decided (digits l))
+    ⊎-elim (λ t. let e : Digits.Number (number m l) ≡ Digits.Other = rw t at h in no-case cc) (λ t. t) (decided (digits l))
 
 pub digitsOf-all : (m n : ℕ) (l : List ℕ) → digitsOf m l ≡ Digits.Number n → digits l ≡ true
 digitsOf-all m n l h =
-    ⊎-elim (λ t. t) (λ t. let e : Digits.Other ≡ Digits.Number n = rw t at h in let w : _≡_ {A = ℕ} 0 1 = cc in absurd (omega arith)) (decided (digits l))
+    ⊎-elim (λ t. t) (λ t. let e : Digits.Other ≡ Digits.Number n = rw t at h in no-case cc) (decided (digits l))
 
 pub digitsOf-number : (m n : ℕ) (l : List ℕ) → digitsOf m l ≡ Digits.Number n → number m l ≡ n
 digitsOf-number m n l h = let e : Digits.Number (number m l) ≡ Digits.Number n = rw (digitsOf-all m n l h) at h in cc

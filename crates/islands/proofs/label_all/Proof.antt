@@ -2,8 +2,9 @@
 use native.Mathlib.Omega.{arith}
 use Prim.Native.Nat.{ℕ, _≤_, _-_}
 use mathlib.Core.Path.{_≡_, refl}
+use Rattle.real.specs.Each.{each}
 use Rattle.islands.specs.Forest.{Forest}
-use Rattle.islands.specs.Islands.{isFirst, labelBy, each, tableOf}
+use Rattle.islands.specs.Islands.{isFirst, labelBy, tableOf}
 use Rattle.islands.specs.Islands.Laws.{tally-le, table-turn}
 use Rattle.islands.proofs.Numbering.{Numbered, none-yet, numbered-turn}
 use Rattle.islands.proofs.label_all.Statement.{statement}

@@ -10,8 +10,9 @@ use borrow.Author.Tests.{eq-eqb, ne-eqb, lt-ltb, le-ltb, ltb-true}
 use lib.ListN.{length, getD, set, length-set}
 use lib.Seq.{getD-set-same, getD-set-other}
 use lib.Dec.{eqb, ltb}
+use Rattle.real.specs.Tests.{same-or-not}
 use Rattle.islands.specs.Islands.{moved, tally}
-use Rattle.islands.specs.Islands.Laws.{same?, moved-met, moved-other, tally-le, tally-strict}
+use Rattle.islands.specs.Islands.Laws.{moved-met, moved-other, tally-le, tally-strict}
 use Rattle.islands.specs.Forest.{Forest, joinedRoot}
 
 -- ---- a bus hung one place higher
@@ -20,12 +21,12 @@ use Rattle.islands.specs.Forest.{Forest, joinedRoot}
 module _ (p : List ℕ) (a v : ℕ) (size : length p ≡ 32) (l : a < 32) where
   after : (Q : ℕ → ℕ → Type 0) → Q a v → ((i : ℕ) → i < 32 → (i ≡ a → ⊥) → Q i (getD p i 0)) → (i : ℕ) → i < 32 → Q i (getD (set p a v) i 0)
   after Q here there i h =
-      ⊎-elim (λ e. rw (e, getD-set-same p a v 0 (omega arith)) here) (λ n. rw (getD-set-other p a i v 0 n) (there i h n)) (same? i a)
+      ⊎-elim (λ e. rw (e, getD-set-same p a v 0 (omega arith)) here) (λ n. rw (getD-set-other p a i v 0 n) (there i h n)) (same-or-not i a)
 
 module _ {rank root : ℕ → ℕ} (p : List ℕ) (w : Forest rank root p) where
   -- a parent's rank is no higher
   no-higher : (i : ℕ) → i < 32 → rank (getD p i 0) ≤ rank i
-  no-higher i h = ⊎-elim (λ e. rw e (omega arith)) (λ n. let q = w .falls i h n in omega arith) (same? (getD p i 0) i)
+  no-higher i h = ⊎-elim (λ e. rw e (omega arith)) (λ n. let q = w .falls i h n in omega arith) (same-or-not (getD p i 0) i)
 
   pub two-up : (a : ℕ) → a < 32 → (getD p a 0 ≡ a → ⊥) → rank (getD p (getD p a 0) 0) < rank a
   two-up a l n = let q = w .falls a l n in let r = no-higher (getD p a 0) (w .within a l) in omega arith
@@ -64,7 +65,7 @@ module _ {rank root : ℕ → ℕ} (p : List ℕ) (w : Forest rank root p) (a b 
   unmoved e = rw same w
     where
       one : (i : ℕ) → joinedRoot root a b i ≡ root i
-      one i = ⊎-elim (λ s. moved-met (root a) (root b) (root i) s ∙ e ∙ sym s) (moved-other (root a) (root b) (root i)) (same? (root i) (root b))
+      one i = ⊎-elim (λ s. moved-met (root a) (root b) (root i) s ∙ e ∙ sym s) (moved-other (root a) (root b) (root i)) (same-or-not (root i) (root b))
 
       same : joinedRoot root a b ≡ root
       same = fun-ext one
@@ -98,7 +99,7 @@ module _ {rank root : ℕ → ℕ} (p : List ℕ) (w : Forest rank root p) (a b 
       }
     where
       go : (Q : ℕ → Type 0) → Q (root a) → (i : ℕ) → ((root i ≡ root b → ⊥) → Q (root i)) → Q (joinedRoot root a b i)
-      go Q moves i stays = ⊎-elim (λ e. rw (moved-met (root a) (root b) (root i) e) moves) (λ d. rw (moved-other (root a) (root b) (root i) d) (stays d)) (same? (root i) (root b))
+      go Q moves i stays = ⊎-elim (λ e. rw (moved-met (root a) (root b) (root i) e) moves) (λ d. rw (moved-other (root a) (root b) (root i) d) (stays d)) (same-or-not (root i) (root b))
 
 -- ---- how far a bus is from its root
 
@@ -136,7 +137,7 @@ module _ {rank root : ℕ → ℕ} (p : List ℕ) (w : Forest rank root p) where
   settled (suc k) i h l =
       ⊎-elim (λ e. height-top p k i e ∙ sym (height-top p (suc k) i e))
       (λ n. height-up p k i n ∙ ap suc (settled k (getD p i 0) (w .within i h) (let q = place-falls i h n in omega arith)) ∙ sym (height-up p (suc k) i n))
-      (same? (getD p i 0) i)
+      (same-or-not (getD p i 0) i)
 
   -- so the steps up, counted to one more than 32, are a rank
   pub by-height : Forest (height p 33) root p

@@ -1,32 +1,21 @@
 -- The labels that labelsOf works out are those that 01 means, and no others are. Assumes nothing.
 use Prim.Native.Nat.{ℕ, zero, suc, _+_, _-_, _≤_, _<_}
 use mathlib.Core.Path.{_≡_, refl, sym, ap, _∙_}
-use mathlib.Core.Logic.{_↔_, _⊎_, inl, inr, ⊎-elim}
+use mathlib.Core.Logic.{_↔_, _⊎_, ⊎-elim}
 use mathlib.Core.Bool.{Bool, true, false, cond, true≢false}
-use mathlib.Core.List.{List, [], _∷_, append-assoc}
+use mathlib.Core.List.{List, append-assoc}
 use native.Mathlib.Omega.{arith}
-use native.Mathlib.Nat.{not-suc-le-zero, le-of-suc-le-suc, eq-or-lt-of-le}
+use native.Mathlib.Nat.{not-suc-le-zero, eq-or-lt-of-le}
 use native.Mathlib.Numerals.{add-one}
-use borrow.Author.Tests.{eqb-true, eqb-false, eq-eqb, ne-eqb, ltb-true, ltb-false}
-use lib.ListN.{length, getD, set, replicate, length-append, List·getD-append}
-use lib.Seq.{set-at, getD-at, ext-getD}
-use lib.Dec.{eqb, ltb}
-use Rattle.islands.specs.Islands.{Linked, line, self, back, via, Joined, First, Firsts, none, one, other, Labelled, moved, groupOf, islandOf, lowest, firstOf, tally, isFirst, labelBy, labelOf, each, labelsOf, tableOf}
-
--- two numbers are equal or not
-pub same? : (a b : ℕ) → (a ≡ b) ⊎ (a ≡ b → ⊥)
-same? a b = go (eqb a b) refl
-  where
-    go : (t : Bool) → eqb a b ≡ t → (a ≡ b) ⊎ (a ≡ b → ⊥)
-    go true e = inl (eqb-true a b e)
-    go false e = inr (eqb-false a b e)
-
-below? : (a b : ℕ) → (a < b) ⊎ (b ≤ a)
-below? a b = go (ltb a b) refl
-  where
-    go : (t : Bool) → ltb a b ≡ t → (a < b) ⊎ (b ≤ a)
-    go true e = inl (ltb-true a b e)
-    go false e = inr (ltb-false a b e)
+use borrow.Author.Tests.{eqb-true, eqb-false, eq-eqb, ne-eqb}
+use lib.ListN.{length, getD, set, replicate, List·getD-append}
+use lib.Seq.{set-at}
+use lib.Dec.{eqb}
+use Rattle.real.specs.Tests.{same-or-not, below-or, same-or-below}
+use Rattle.real.specs.Counting.{counted, rising, strictly, growth, met}
+use Rattle.real.specs.Each.{each}
+use Rattle.real.specs.Each.Laws.{length-each, each-at, is-each}
+use Rattle.islands.specs.Islands.{Linked, line, self, back, via, Joined, First, Firsts, none, one, other, Labelled, moved, groupOf, islandOf, lowest, firstOf, tally, isFirst, labelBy, labelOf, labelsOf, tableOf}
 
 pub moved-met : (a b c : ℕ) → c ≡ b → moved a b c ≡ a
 moved-met a b c e = rw (eq-eqb c b e)
@@ -35,7 +24,7 @@ pub moved-other : (a b c : ℕ) → (c ≡ b → ⊥) → moved a b c ≡ c
 moved-other a b c h = rw (ne-eqb c b h)
 
 moved-both : (a b : ℕ) → moved a b a ≡ moved a b b
-moved-both a b = ⊎-elim (ap (moved a b)) (λ n. moved-other a b a n ∙ sym (moved-met a b b refl)) (same? a b)
+moved-both a b = ⊎-elim (ap (moved a b)) (λ n. moved-other a b a n ∙ sym (moved-met a b b refl)) (same-or-not a b)
 
 -- ---- one group is one island
 
@@ -52,7 +41,7 @@ module _ (from to : List ℕ) where
   more (via d e) = via (more d) (more e)
 
   name-turn : (m : ℕ) → ((i : ℕ) → Linked m from to i (groupOf m from to i)) → (i : ℕ) → Linked (suc m) from to i (groupOf (suc m) from to i)
-  name-turn m so i = rw group-turn (⊎-elim moves stays (same? (g i) (g (getD to m 0))))
+  name-turn m so i = rw group-turn (⊎-elim moves stays (same-or-not (g i) (g (getD to m 0))))
     where
       g : ℕ → ℕ
       g = groupOf m from to
@@ -82,7 +71,7 @@ module _ (from to : List ℕ) where
   line-groups (suc m) k h =
       rw (group-turn m (getD from k 0), group-turn m (getD to k 0))
       (⊎-elim (λ e. rw e (moved-both (groupOf m from to (getD from m 0)) (groupOf m from to (getD to m 0)))) (λ l. ap (moved _ _) (line-groups m k l))
-      (eq-or-lt-of-le (le-of-suc-le-suc h)))
+      (same-or-below h))
 
   pub linked-group : {m i j : ℕ} → Linked m from to i j → groupOf m from to i ≡ groupOf m from to j
   linked-group {m} (line k h) = line-groups m k h
@@ -95,52 +84,23 @@ module _ (from to : List ℕ) where
 
 -- ---- counting
 
--- l is the tally below some number that passes
-abbrev Met : (ℕ → Bool) → ℕ → ℕ → Type 0
-Met t k l = (f : ℕ) × (f < k) × (t f ≡ true) × (tally t f ≡ l)
-
 module _ (t : ℕ → Bool) where
-  pub tally-yes : (k : ℕ) → t k ≡ true → tally t (suc k) ≡ suc (tally t k)
+  tally-turn : (k : ℕ) → tally t (suc k) ≡ cond (t k) (suc (tally t k)) (tally t k)
   unfolding tally
-  tally-yes k e = rw e
+  tally-turn k = refl
+
+  none-counted : tally t 0 ≡ 0
+  unfolding tally
+  none-counted = refl
+
+  pub tally-yes : (k : ℕ) → t k ≡ true → tally t (suc k) ≡ suc (tally t k)
+  tally-yes = counted (tally t) t tally-turn
 
   pub tally-no : (k : ℕ) → t k ≡ false → tally t (suc k) ≡ tally t k
-  unfolding tally
-  tally-no k e = rw e
-
-  tally-turn : (k : ℕ) → (tally t (suc k) ≡ tally t k) ⊎ ((t k ≡ true) × (tally t (suc k) ≡ suc (tally t k)))
-  tally-turn k = go (t k) refl
-    where
-      go : (b : Bool) → t k ≡ b → (tally t (suc k) ≡ tally t k) ⊎ ((t k ≡ true) × (tally t (suc k) ≡ suc (tally t k)))
-      go true e = inr (e, tally-yes k e)
-      go false e = inl (tally-no k e)
+  tally-no k e = tally-turn k ∙ rw e
 
   pub tally-le : (k : ℕ) → tally t k ≤ k
-  unfolding tally
-  tally-le zero = omega arith
-  tally-le (suc k) = let h = tally-le k in ⊎-elim (λ e. omega arith) (λ e. omega (arith, e .1)) (tally-turn k)
-
-  tally-rises : (f k : ℕ) → f ≤ k → tally t f ≤ tally t k
-  tally-rises f zero h = let e : f ≡ 0 = omega arith in rw e (omega arith)
-  tally-rises f (suc k) h =
-      ⊎-elim (λ e. rw e (omega arith))
-      (λ l. let r = tally-rises f k (le-of-suc-le-suc l) in ⊎-elim (λ e. omega arith) (λ e. omega (arith, e .1)) (tally-turn k))
-      (eq-or-lt-of-le h)
-
-  tally-past : (f k : ℕ) → t f ≡ true → f < k → tally t f < tally t k
-  tally-past f k e h = let r = tally-rises (suc f) k h in omega (arith, tally-yes f e)
-
-  tally-met : (k l : ℕ) → l < tally t k → Met t k l
-  unfolding tally
-  tally-met zero l h = absurd (not-suc-le-zero h)
-  tally-met (suc k) l h = go (tally-turn k) (tally-met k l)
-    where
-      wider : Met t k l → Met t (suc k) l
-      wider w = (w .0, omega (arith, w .1), w .2, w .3)
-
-      go : (tally t (suc k) ≡ tally t k) ⊎ ((t k ≡ true) × (tally t (suc k) ≡ suc (tally t k))) → (l < tally t k → Met t k l) → Met t (suc k) l
-      go (inl e) so = wider (so (omega arith))
-      go (inr e) so = ⊎-elim (λ p. (k, omega arith, e .0, sym p)) (λ q. wider (so q)) (eq-or-lt-of-le (let u = e .1 in omega arith))
+  tally-le k = omega (arith, growth (tally t) t tally-turn k, none-counted)
 
 -- where t passes whenever s does, a count is as far ahead after one number more
 module _ (s t : ℕ → Bool) (h : (j : ℕ) → s j ≡ true → t j ≡ true) where
@@ -149,7 +109,7 @@ module _ (s t : ℕ → Bool) (h : (j : ℕ) → s j ≡ true → t j ≡ true) 
     where
       go : (b : Bool) → s k ≡ b → tally s (suc k) + d ≤ tally t (suc k)
       go true e = omega (arith, tally-yes s k e, tally-yes t k (h k e))
-      go false e = omega (arith, tally-no s k e, tally-rises t k (suc k) (omega arith))
+      go false e = omega (arith, tally-no s k e, rising (tally t) t (tally-turn t) k (suc k) (omega arith))
 
   tally-more : (k : ℕ) → tally s k + 0 ≤ tally t k
   unfolding tally
@@ -160,7 +120,7 @@ module _ (s t : ℕ → Bool) (h : (j : ℕ) → s j ≡ true → t j ≡ true) 
   ahead zero j l e f = absurd (not-suc-le-zero l)
   ahead (suc k) j l e f =
       ⊎-elim (λ p. omega (arith, tally-more k, tally-no s k (rw p at e), tally-yes t k (rw p at f))) (λ q. ahead-turn 1 k (ahead k j q e f))
-      (eq-or-lt-of-le (le-of-suc-le-suc l))
+      (same-or-below l)
 
   pub tally-strict : (k j : ℕ) → j < k → s j ≡ false → t j ≡ true → tally s k < tally t k
   tally-strict k j l e f = let r = ahead k j l e f in omega arith
@@ -176,7 +136,7 @@ low-unique : (g : ℕ → ℕ) (c e f : ℕ) → Low g c e → Low g c f → e �
 low-unique g c e f p q =
     ⊎-elim (λ l. absurd (q .before e l (p .holds)))
     (λ r. ⊎-elim (λ s. sym s) (λ l. absurd (p .before f l (q .holds))) (eq-or-lt-of-le r))
-    (below? e f)
+    (below-or e f)
 
 lowest-is : (g : ℕ → ℕ) (c k f : ℕ) → k ≤ f → g f ≡ c → ((j : ℕ) → k ≤ j → j < f → g j ≡ c → ⊥) → Low g c (lowest g c k f) × (lowest g c k f ≤ f)
 unfolding lowest
@@ -220,19 +180,21 @@ module _ (g : ℕ → ℕ) where
 
   -- labels rise with the first buses
   label-order : (i j : ℕ) → firstOf g i < firstOf g j → labelBy g i < labelBy g j
-  label-order i j = tally-past (isFirst g) (firstOf g i) (firstOf g j) (first-first i)
+  label-order i j = strictly (tally (isFirst g)) (isFirst g) (tally-turn (isFirst g)) (firstOf g i) (firstOf g j) (first-first i)
 
   label-apart : (i j : ℕ) → labelBy g i ≡ labelBy g j → g i ≡ g j
   label-apart i j e =
       ⊎-elim (λ l. absurd (let h = label-order i j l in let z : ⊥ = omega arith in z))
       (λ r. ⊎-elim (λ p. sym (first-group i) ∙ ap g (sym p) ∙ first-group j) (λ l. absurd (let h = label-order j i l in let z : ⊥ = omega arith in z)) (eq-or-lt-of-le r))
-      (below? (firstOf g i) (firstOf g j))
+      (below-or (firstOf g i) (firstOf g j))
 
   pub label-le : (i : ℕ) → labelBy g i ≤ i
   label-le i = omega (arith, tally-le (isFirst g) (firstOf g i), first-le i)
 
   label-met : (n l : ℕ) → l < tally (isFirst g) n → (i : ℕ) × (i < n) × (labelBy g i ≡ l)
-  label-met n l h = let w = tally-met (isFirst g) n l h in (w .0, w .1, ap (tally (isFirst g)) (eqb-true _ _ (w .2)) ∙ w .3)
+  label-met n l h =
+      let w = met (tally (isFirst g)) (isFirst g) (tally-turn (isFirst g)) n l (omega (arith, none-counted (isFirst g))) h in
+      (w .0, w .1, ap (tally (isFirst g)) (eqb-true _ _ (w .2)) ∙ w .3)
 
 -- ---- the meaning
 
@@ -301,26 +263,13 @@ module _ (from to : List ℕ) where
   pub labels-below : (n c i : ℕ) → Firsts from to n c → i < n → labelOf from to i < c
   labels-below n c i r h =
       let g = islandOf from to in
-      rw (firsts-are r) (tally-past (isFirst g) (firstOf g i) n (first-first g i) (let q = first-le g i in omega arith))
+      rw (firsts-are r) (strictly (tally (isFirst g)) (isFirst g) (tally-turn (isFirst g)) (firstOf g i) n (first-first g i) (let q = first-le g i in omega arith))
 
   -- .. and each number below c is a label
   pub labels-met : (n c l : ℕ) → Firsts from to n c → l < c → (i : ℕ) × (i < n) × (labelOf from to i ≡ l)
   labels-met n c l r h = label-met (islandOf from to) n l (rw (firsts-are r) at h)
 
 -- ---- the table
-
-pub length-each : (n : ℕ) (f : ℕ → ℕ) → length (each n f) ≡ n
-unfolding each
-length-each zero f = refl
-length-each (suc k) f = simp (length-append, length-each k f) (omega arith)
-
-pub each-at : (n : ℕ) (f : ℕ → ℕ) (i : ℕ) → i < n → getD (each n f) i 0 ≡ f i
-unfolding each
-each-at zero f i h = absurd (not-suc-le-zero h)
-each-at (suc k) f i h =
-    ⊎-elim (λ e. rw e (getD-at (each k f) (f k) [] 0 k (length-each k f)))
-    (λ l. List·getD-append (each k f) (f k ∷ []) 0 i (omega (arith, length-each k f)) ∙ each-at k f i l)
-    (eq-or-lt-of-le (le-of-suc-le-suc h))
 
 pub table-turn : (k : ℕ) (f : ℕ → ℕ) → k < 32 → set (tableOf k (each k f)) k (f k) ≡ tableOf (k + 1) (each (k + 1) f)
 unfolding each
@@ -336,7 +285,7 @@ module _ (n : ℕ) (from to : List ℕ) where
 
   pub labels-at : (i : ℕ) → i < n → getD (labelsOf n from to) i 0 ≡ labelOf from to i
   unfolding labelsOf
-  labels-at = each-at n (labelOf from to)
+  labels-at = each-at n (labelOf from to) 0
 
   pub table-at : (i : ℕ) → i < n → getD (tableOf n (labelsOf n from to)) i 0 ≡ labelOf from to i
   table-at i h = List·getD-append (labelsOf n from to) (replicate (32 - n) 0) 0 i (rw length-labels h) ∙ labels-at i h
@@ -349,6 +298,5 @@ module _ (n : ℕ) (from to : List ℕ) where
 
   -- any list of n labels that are those meant is labelsOf's
   pub labels-only : (l : List ℕ) → length l ≡ n → Labelled n from to (λ i. getD l i 0) → l ≡ labelsOf n from to
-  labels-only l e w =
-      ext-getD 0 l (labelsOf n from to) (e ∙ sym length-labels)
-      (λ i h. labels-unique from to n (λ j. getD l j 0) (labelOf from to) w (labels-mean from to n) i (omega arith) ∙ sym (labels-at i (omega arith)))
+  unfolding labelsOf
+  labels-only l e w = is-each n (labelOf from to) 0 l e (labels-unique from to n (λ j. getD l j 0) (labelOf from to) w (labels-mean from to n))

@@ -6,13 +6,14 @@ use native.Mathlib.Omega.{arith}
 use lib.ListN.{length, getD}
 use Rattle.real.specs.Literals.{nought}
 use Rattle.layout.specs.Table.{table}
-use Rattle.layout.specs.Limits.{sumAt, hasGen, limitsOf}
+use Rattle.layout.specs.Limits.{sumAt, limitsOf}
+use Rattle.layout.specs.Kinds.{listed}
 use Rattle.layout.specs.Limits.Laws.{sums-begin, gens-begin, sums-more, gens-more}
 use Rattle.layout.proofs.aggregate_q.Statement.{statement}
 use Rattle.layout.proofs.aggregate_q.Tie as tie
 
 abbrev Inv-loop : tie.InvT-loop
-Inv-loop gen-bus qmin qmax qmin-bus₀ qmax-bus₀ has-gen₀ g₀ g-end qmin-bus qmax-bus has-gen g = (g ≤ g-end) × (g-end ≡ length gen-bus) × (qmin-bus ≡ table 32 nought (sumAt g gen-bus qmin)) × (qmax-bus ≡ table 32 nought (sumAt g gen-bus qmax)) × (has-gen ≡ table 32 false (hasGen g gen-bus))
+Inv-loop gen-bus qmin qmax qmin-bus₀ qmax-bus₀ has-gen₀ g₀ g-end qmin-bus qmax-bus has-gen g = (g ≤ g-end) × (g-end ≡ length gen-bus) × (qmin-bus ≡ table 32 nought (sumAt g gen-bus qmin)) × (qmax-bus ≡ table 32 nought (sumAt g gen-bus qmax)) × (has-gen ≡ table 32 false (listed g gen-bus))
 
 abbrev μ-loop : tie.MeasureT-loop
 μ-loop gen-bus qmin qmax qmin-bus₀ qmax-bus₀ has-gen₀ g₀ g-end qmin-bus qmax-bus has-gen g = g-end - g

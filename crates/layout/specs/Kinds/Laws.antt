@@ -6,6 +6,7 @@ use mathlib.Core.List.{List}
 use native.Mathlib.Numerals.{add-one}
 use lib.Dec.{eqb}
 use lib.ListN.{length, getD, set, replicate}
+use Rattle.real.specs.Any.{anyBelow}
 use Rattle.layout.specs.declared.BusKind.{BusKind}
 use Rattle.layout.specs.declared.BusKind.the-variants.{Slack, Pq}
 use Rattle.layout.specs.Table.{table}
@@ -13,7 +14,7 @@ use Rattle.layout.specs.Table.Laws.{table-at, table-set, stores-ext}
 use Rattle.layout.specs.Kinds.{flagKind, listed, kindAt, kindsOf}
 
 pub kinds-begin : (n : ℕ) (flags slacks : List ℕ) → table n Pq (λ b. flagKind (getD flags b 0)) ≡ table n Pq (kindAt 0 flags slacks)
-unfolding listed
+unfolding anyBelow
 kinds-begin n flags slacks = refl
 
 either : (a b : Bool) (x y : BusKind) → cond a x (cond b x y) ≡ cond (b || a) x y
@@ -24,7 +25,7 @@ either false false x y = refl
 
 pub kinds-row : (n i : ℕ) (flags slacks : List ℕ) → getD slacks i 0 < n → n ≤ 32
     → set (table n Pq (kindAt i flags slacks)) (getD slacks i 0) Slack ≡ table n Pq (kindAt (i + 1) flags slacks)
-unfolding listed
+unfolding anyBelow
 kinds-row n i flags slacks p h =
     table-set n Pq (kindAt i flags slacks) (getD slacks i 0) Slack p h
     ∙ rw add-one (stores-ext _ (kindAt (suc i) flags slacks) n (replicate 32 Pq) (λ b q. either (eqb b (getD slacks i 0)) (listed i slacks b) Slack (flagKind (getD flags b 0))))

@@ -11,7 +11,7 @@ use lib.Dec.{eqb, ltb}
 use lib.ListN.{getD}
 use Rattle.layout.specs.declared.BusKind.{BusKind}
 use Rattle.layout.specs.declared.BusKind.the-variants.{Slack, Pv, Pq}
-use Rattle.layout.specs.Counting.{rising, strictly, once, growth, met}
+use Rattle.real.specs.Counting.{rising, strictly, once, growth, met}
 use Rattle.layout.specs.Table.Laws.{table-at}
 use Rattle.layout.specs.Layout.{none, angleCol, nextAngle, magnitudeCol, nextMagnitude, kindOf, angleCount, magnitudeCount, angleAt, magnitudeAt, layoutOf, kindIn}
 

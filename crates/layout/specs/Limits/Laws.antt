@@ -1,7 +1,7 @@
 -- The sums as a loop over the generators makes them; and that another bus's generators don't matter to a bus. Assumes nothing.
 use Prim.Native.Nat.{ℕ, zero, suc, _+_, _<_}
 use mathlib.Core.Path.{_≡_, refl, sym, _∙_}
-use mathlib.Core.Bool.{Bool, true, false, cond}
+use mathlib.Core.Bool.{Bool, true, false, _||_, cond}
 use mathlib.Core.List.{List}
 use mathlib.Core.Logic.{_⊎_, inl, inr}
 use native.Mathlib.Nat.{le-refl}
@@ -12,16 +12,21 @@ use lib.Dec.{eqb}
 use lib.ListN.{length, getD, set, replicate}
 use lib.Ieee.{Float, nan, binary64, add}
 use Rattle.real.specs.Literals.{nought}
+use Rattle.real.specs.Any.{anyBelow}
 use Rattle.layout.specs.Table.{table}
 use Rattle.layout.specs.Table.Laws.{table-at, table-set, stores-ext, table-same}
-use Rattle.layout.specs.Limits.{sumAt, hasGen, limitsOf}
+use Rattle.layout.specs.Limits.{sumAt, limitsOf}
+use Rattle.layout.specs.Kinds.{listed}
 
 -- ---- generator by generator
 
-module _ (buses : List ℕ) (k : ℕ) (below : getD buses k 0 < 32) where
-  bus : ℕ
-  bus = getD buses k 0
+also : (a b : Bool) → cond a true b ≡ (b || a)
+also true true = refl
+also true false = refl
+also false true = refl
+also false false = refl
 
+module _ (buses : List ℕ) (k : ℕ) (below : getD buses k 0 < 32) where
   pub sums-more : (q : List Float)
       → set (table 32 nought (sumAt k buses q)) (getD buses k 0) (add binary64 (getD (table 32 nought (sumAt k buses q)) (getD buses k 0) nan) (getD q k nan)) ≡ table 32 nought (sumAt (k + 1) buses q)
   unfolding sumAt
@@ -35,19 +40,19 @@ module _ (buses : List ℕ) (k : ℕ) (below : getD buses k 0 < 32) where
       go b true e = rw (eqb-true b (getD buses k 0) e)
       go b false e = refl
 
-  pub gens-more : set (table 32 false (hasGen k buses)) (getD buses k 0) true ≡ table 32 false (hasGen (k + 1) buses)
-  unfolding hasGen
+  pub gens-more : set (table 32 false (listed k buses)) (getD buses k 0) true ≡ table 32 false (listed (k + 1) buses)
+  unfolding anyBelow
   gens-more =
-      table-set 32 false (hasGen k buses) (getD buses k 0) true below (le-refl 32)
-      ∙ rw add-one (stores-ext _ (hasGen (suc k) buses) 32 (replicate 32 false) (λ b h. refl))
+      table-set 32 false (listed k buses) (getD buses k 0) true below (le-refl 32)
+      ∙ rw add-one (stores-ext _ (listed (suc k) buses) 32 (replicate 32 false) (λ b h. also (eqb b (getD buses k 0)) (listed k buses b)))
 
 -- before the first generator
 pub sums-begin : (buses : List ℕ) (q : List Float) → replicate 32 nought ≡ table 32 nought (sumAt 0 buses q)
 unfolding sumAt
 sums-begin buses q = sym (table-same 32 nought)
 
-pub gens-begin : (buses : List ℕ) → replicate 32 false ≡ table 32 false (hasGen 0 buses)
-unfolding hasGen
+pub gens-begin : (buses : List ℕ) → replicate 32 false ≡ table 32 false (listed 0 buses)
+unfolding anyBelow
 gens-begin buses = sym (table-same 32 false)
 
 -- ---- what a bus reads

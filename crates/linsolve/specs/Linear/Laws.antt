@@ -12,6 +12,7 @@ use lib.Dec.{eqb}
 use lib.ListN.{length, set, length-set}
 use lib.Seq.{getD-set-same, getD-set-other, set-getD}
 use lib.Ieee.{Float, nan, binary64, sub, mul, div, lt}
+use Rattle.real.specs.Tests.{cond-either}
 use Rattle.real.specs.Literals.{nought}
 use Rattle.real.specs.Real.{absolute}
 use Rattle.linsolve.specs.declared.Solution.the-variants.{Solved, Singular}
@@ -48,17 +49,13 @@ module _ (n r col p : ℕ) (best x : Float) (w : List Float) (is : x ≡ absolut
   unfolding pivotFrom
   pivot-not-above h = rw (← is, h)
 
-cond-below : (t : Bool) (a b dim : ℕ) → a ≤ dim → b ≤ dim → cond t a b ≤ dim
-cond-below true a b dim ha hb = ha
-cond-below false a b dim ha hb = hb
-
 -- a pivot is a row of the matrix, or dim
 pub pivot-below : (n r col : ℕ) (best : Float) (p : ℕ) (w : List Float) (dim : ℕ) → r + n ≤ dim → p ≤ dim → pivotFrom n r col best p w ≤ dim
 unfolding pivotFrom
 pivot-below zero r col best p w dim h k = k
 pivot-below (suc n) r col best p w dim h k =
     let above = lt best (absolute (at w (r * 64 + col))) in
-    pivot-below n (r + 1) col _ (cond above r p) w dim (omega arith) (cond-below above r p dim (omega arith) k)
+    pivot-below n (r + 1) col _ (cond above r p) w dim (omega arith) (cond-either (λ q. q ≤ dim) above (omega arith) k)
 
 pub swap-end : (c a b : ℕ) (w : List Float) → swapRows 0 c a b w ≡ swapped (4096 + a) (4096 + b) w
 unfolding swapRows

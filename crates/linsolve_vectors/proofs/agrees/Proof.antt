@@ -1,7 +1,7 @@
 -- `linsolve_vectors::agrees` meets its contract, by the laws of proofs/Agreement.antt. Assumes nothing.
 use mathlib.Core.Path.{sym, _∙_}
-use mathlib.Core.Bool.{true≢false}
 use borrow.Author.Needs.{needs}
+use Rattle.vectors.specs.Words.Laws.{never-told}
 use Rattle.linsolve_vectors.proofs.Agreement.{agreement, agreed-answer, agreed-space}
 use Rattle.linsolve_vectors.proofs.agrees.Statement.{statement}
 use Rattle.linsolve_vectors.proofs.agrees.Tie as tie
@@ -11,7 +11,7 @@ returns c =
     let number = c .before .before .number .ensures in
     let solve = c .before .before .before .before .before .solve .ensures in
     let fill = c .before .before .before .before .before .before .before .before .before .fill .ensures in
-    (λ e. absurd (true≢false (sym e)), λ a. absurd (c .before .if1 .taken (number ∙ agreed-answer _ _ _ _ _ _ fill solve a)))
+    never-told (λ a. c .before .if1 .taken (number ∙ agreed-answer _ _ _ _ _ _ fill solve a))
 
 returns-2 : tie.Need-returns-2
 returns-2 c =

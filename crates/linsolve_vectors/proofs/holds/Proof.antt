@@ -1,10 +1,10 @@
 -- `linsolve_vectors::holds` meets its contract. The invariant: every place passed holds what is told. Assumes nothing.
 use mathlib.Core.Path.{_≡_, refl, sym, _∙_}
-use mathlib.Core.Bool.{true≢false}
 use Prim.Native.Nat.{ℕ, _-_, _≤_, _<_}
 use native.Mathlib.Omega.{arith}
 use borrow.Author.Count.{below-more}
-use borrow.Author.Tests.{not-true, not-false}
+use borrow.Author.Tests.{not-false}
+use Rattle.vectors.specs.Words.Laws.{not-told}
 use Rattle.linsolve.specs.Linear.{at}
 use Rattle.linsolve_vectors.specs.Told.{toldOf}
 use Rattle.linsolve_vectors.proofs.holds.Statement.{statement}
@@ -22,10 +22,8 @@ loop-holds c = (omega arith, λ k h. absurd (omega arith))
 returns : tie.Need-returns Inv-loop μ-loop
 returns c =
     let same = c .before .same in
-    let s = c .before .before .before .before .before in (
-      λ e. absurd (true≢false (sym e)),
-      λ h. absurd (true≢false (sym (same .ensures .1 (h .each (s .loop .i) (omega arith) ∙ sym (c .before .before .told .ensures))) ∙ not-true (same .result) (c .if1 .taken))),
-    )
+    let s = c .before .before .before .before .before in
+    not-told (same .result) (same .ensures) (c .if1 .taken) (λ h. h .each (s .loop .i) (omega arith) ∙ sym (c .before .before .told .ensures))
 
 loop-again : tie.Need-loop-again Inv-loop μ-loop
 loop-again c =

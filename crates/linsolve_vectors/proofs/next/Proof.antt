@@ -1,9 +1,8 @@
 -- `linsolve_vectors::next` meets its contract: only the last two ways tell of a system, as `agrees` found it. Assumes nothing.
-use mathlib.Core.Bool.{true≢false}
-use mathlib.Core.Path.{sym, _∙_}
 use native.Mathlib.Omega.{arith}
 use borrow.Author.Needs.{needs}
-use Rattle.vectors.specs.Words.Laws.{no-record}
+use Rattle.real.specs.Tests.{true-false}
+use Rattle.vectors.specs.Words.Laws.{found-agreed, found-differed, no-record}
 use Rattle.linsolve_vectors.proofs.next.Statement.{statement}
 use Rattle.linsolve_vectors.proofs.next.Tie as tie
 
@@ -19,18 +18,12 @@ returns-3 c = no-record (omega arith) (omega arith)
 returns-4 : tie.Need-returns-4
 returns-4 c =
     let word = c .before .before .before .before .before .before .before .before .before .before .before .before .word .ensures in
-    let agrees = c .before .agrees .ensures .0 (c .if4 .taken) in
-    record { small = omega arith; agreed = λ e. rw (← word, ← (c .before .before .word2 .ensures)) agrees; differed = λ e. absurd (omega arith) }
+    found-agreed (rw (← word, ← (c .before .before .word2 .ensures)) (c .before .agrees .ensures .0 (c .if4 .taken)))
 
 returns-5 : tie.Need-returns-5
 returns-5 c =
     let word = c .before .before .before .before .before .before .before .before .before .before .before .before .word .ensures in
-    let agrees = c .before .agrees .ensures .1 in
-    record {
-      small = omega arith;
-      agreed = λ e. absurd (omega arith);
-      differed = λ e a. true≢false (sym (agrees (rw (word, c .before .before .word2 .ensures) a)) ∙ c .if4 .left);
-    }
+    found-differed (omega arith) (λ a. true-false (c .before .agrees .ensures .1 (rw (word, c .before .before .word2 .ensures) a)) (c .if4 .left))
 
 pub next-spec : {M : Type 1} → statement M
 next-spec =

@@ -1,16 +1,15 @@
 -- Without a generator no bus moves. Demand 3 at one bus: two studies that differ only in figures withheld there move it alike, and go on differing only there.
 -- Assumes nothing.
-use Prim.Native.Nat.{ℕ, zero, suc, _<_}
+use Prim.Native.Nat.{ℕ}
 use mathlib.Core.Bool.{Bool, true, false, cond}
 use mathlib.Core.List.{List}
-use mathlib.Core.Logic.{_⊎_, inl, inr, ⊎-elim}
+use mathlib.Core.Logic.{_⊎_, inl, inr}
 use mathlib.Core.Path.{_≡_, refl, sym, _∙_}
-use native.Mathlib.Nat.{not-suc-le-zero}
-use native.Mathlib.Omega.{arith}
 use lib.Dec.{eqb}
 use lib.ListN.{getD, replicate}
 use lib.Ieee.{Float, binary64, add, sub, lt}
-use Rattle.real.specs.Tests.{nor-left, nor-right, same-or-below}
+use Rattle.real.specs.Tests.{no-case}
+use Rattle.real.specs.Any.Laws.{none-below}
 use Rattle.real.specs.Literals.{margin}
 use Rattle.layout.specs.declared.BusKind.{BusKind}
 use Rattle.layout.specs.declared.BusKind.the-variants.{Slack, Pv, Pq}
@@ -24,17 +23,11 @@ use Rattle.moves.specs.Moves.{movePv, movePq, moveOf, moveAt, movesOf, a
 
 -- ---- without a generator
 
-no-generator : (k : ℕ) (has : List Bool) → anyGenerator k has ≡ false → (i : ℕ) → i < k → getD has i false ≡ false
-unfolding anyGenerator
-no-generator zero has e i p = absurd (not-suc-le-zero p)
-no-generator (suc k) has e i p =
-    ⊎-elim (λ q. rw q (nor-right (anyGenerator k has) _ e)) (λ q. no-generator k has (nor-left _ (getD has k false) e) i q) (same-or-below p)
-
 pub no-move : (n : ℕ) (kinds : List BusKind) (l : Limits) (t : Track) (qd q vm hold : List Float) → anyGenerator n (l .«has_gen») ≡ false
     → replicate 32 Keep ≡ movesOf n kinds l t qd q vm hold
 unfolding movesOf moveOf
 no-move n kinds l t qd q vm hold e =
-    sym (stores-ext (moveAt kinds l t qd q vm hold) (λ b. Keep) n (replicate 32 Keep) (λ i p. rw (no-generator n (l .«has_gen») e i p)) ∙ table-same n Keep)
+    sym (stores-ext (moveAt kinds l t qd q vm hold) (λ b. Keep) n (replicate 32 Keep) (λ i p. rw (none-below n (λ b. getD (l .«has_gen») b false) e i p)) ∙ table-same n Keep)
 
 -- ---- how a bus stands
 
@@ -52,21 +45,21 @@ pub data Standing : BusKind → BusKind → ℕ → Float → Float → Type 0 w
 -- ---- what is withheld at another kind is not withheld here
 
 pub active-v : {A : Type 0} → NoActive Pv ⊎ A → A
-active-v (inl e) = let z : _≡_ {A = ℕ} 0 1 = cc in absurd (omega arith)
+active-v (inl e) = no-case cc
 active-v (inr a) = a
 
 pub active-q : {A : Type 0} → NoActive Pq ⊎ A → A
-active-q (inl e) = let z : _≡_ {A = ℕ} 0 1 = cc in absurd (omega arith)
+active-q (inl e) = no-case cc
 active-q (inr a) = a
 
 pub reactive-q : {A : Type 0} → NoReactive Pq ⊎ A → A
-reactive-q (inl (inl e)) = let z : _≡_ {A = ℕ} 0 1 = cc in absurd (omega arith)
-reactive-q (inl (inr e)) = let z : _≡_ {A = ℕ} 0 1 = cc in absurd (omega arith)
+reactive-q (inl (inl e)) = no-case cc
+reactive-q (inl (inr e)) = no-case cc
 reactive-q (inr a) = a
 
 pub limits-v : {A : Type 0} → NoLimits Pv ⊎ A → A
-limits-v (inl (inl e)) = let z : _≡_ {A = ℕ} 0 1 = cc in absurd (omega arith)
-limits-v (inl (inr e)) = let z : _≡_ {A = ℕ} 0 1 = cc in absurd (omega arith)
+limits-v (inl (inl e)) = no-case cc
+limits-v (inl (inr e)) = no-case cc
 limits-v (inr a) = a
 
 -- ---- the moves that there are

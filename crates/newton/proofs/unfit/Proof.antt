@@ -4,6 +4,7 @@ use mathlib.Core.Path.{_≡_}
 use native.Mathlib.Omega.{arith}
 use native.Mathlib.Numerals.{add-one}
 use borrow.Author.Needs.{needs}
+use Rattle.real.specs.Any.{anyBelow}
 use Rattle.newton.specs.Step.{unfitTo}
 use Rattle.newton.proofs.unfit.Statement.{statement}
 use Rattle.newton.proofs.unfit.Tie as tie
@@ -15,11 +16,11 @@ abbrev μ-loop : tie.MeasureT-loop
 μ-loop n p bad₀ b₀ bad b = n - b
 
 loop-holds : tie.Need-loop-holds Inv-loop μ-loop
-unfolding unfitTo
+unfolding anyBelow
 loop-holds c = search needs
 
 loop-again : tie.Need-loop-again Inv-loop μ-loop
-unfolding unfitTo
+unfolding anyBelow
 loop-again c = (search needs, rw (add-one, ← c .before .before .before .before .before .loop .inv .1, ← c .before .unfit-at .ensures) (c .or .ensures))
 
 returns : tie.Need-returns Inv-loop μ-loop

@@ -1,10 +1,9 @@
 -- `number_vectors::agreeing` meets its contract: the vectors passed agree. Assumes nothing.
 use Prim.Native.Nat.{ℕ, _*_, _-_, _≤_, _<_}
-use mathlib.Core.Path.{sym, _∙_}
-use mathlib.Core.Bool.{true≢false}
 use borrow.Author.Count.{below-more}
 use borrow.Author.Tests.{not-true, not-false}
 use native.Mathlib.Omega.{arith}
+use Rattle.real.specs.Tests.{true-false}
 use Rattle.number_vectors.specs.Vectors.{Holds}
 use Rattle.number_vectors.proofs.agreeing.Statement.{statement}
 use Rattle.number_vectors.proofs.agreeing.Tie as tie
@@ -25,7 +24,7 @@ returns c =
     record {
       within = omega arith;
       before = l .loop .inv .1;
-      first = λ h e. true≢false (sym (t .ensures .1 e) ∙ not-true (t .result) (c .if1 .taken));
+      first = λ h e. true-false (t .ensures .1 e) (not-true (t .result) (c .if1 .taken));
     }
 
 loop-again : tie.Need-loop-again Inv-loop μ-loop

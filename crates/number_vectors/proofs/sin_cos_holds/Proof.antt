@@ -1,11 +1,13 @@
 -- `number_vectors::sin_cos_holds` meets its contract: a pair is what it should be where both of its parts are. Assumes nothing.
-use mathlib.Core.Path.{_≡_, sym, ap, _∙_}
+use mathlib.Core.Path.{_≡_, ap, _∙_}
 use mathlib.Core.Bool.{Bool, false}
 use lib.Ieee.{Float}
 use borrow.Author.Needs.{needs}
 use Rattle.trig.specs.declared.SinCos.{SinCos}
 use Rattle.trig.specs.Sine.{pair}
+use Rattle.real.specs.Tests.{true-false}
 use Rattle.vectors.specs.Words.{Tells}
+use Rattle.vectors.specs.Words.Laws.{never-told}
 use Rattle.number_vectors.proofs.sin_cos_holds.Statement.{statement}
 use Rattle.number_vectors.proofs.sin_cos_holds.Tie as tie
 
@@ -28,7 +30,7 @@ module _ (v w : SinCos) (s t : Float) (vw : v ≡ w) where
 
   -- the first part told, and it fails
   fails : (b : Bool) → b ≡ false → Tells b (v .sin ≡ s) → Tells false (w ≡ pair s t)
-  fails b h k = (λ e. cc, λ e. sym h ∙ k .1 (sine e))
+  fails b h k = never-told (λ e. true-false (k .1 (sine e)) h)
 
 returns : tie.Need-returns
 returns c =

@@ -7,6 +7,7 @@ use native.Mathlib.Omega.{arith}
 use lib.Dec.{eqb}
 use lib.ListN.{length, getD, length-replicate}
 use lib.Ieee.{Float, nan}
+use Rattle.real.specs.Tests.{no-case}
 use Rattle.real.specs.Literals.{nought}
 use Rattle.layout.specs.declared.BusKind.{BusKind}
 use Rattle.layout.specs.declared.BusKind.the-variants.{Slack, Pv, Pq}
@@ -91,8 +92,8 @@ module _ (t u : Network) (few : buses t ≤ 32) (a : Alike t u) where
     sum-alike e = sum-unread (length (t .gen-bus)) (t .gen-bus) q p b (λ g h. go g (same g h))
       where
         go : (g : ℕ) → ((kindFor t (genBus t g) ≡ Slack) ⊎ (kindFor t (genBus t g) ≡ Pq)) ⊎ SameAt q p g → (genBus t g ≡ b → ⊥) ⊎ SameAt q p g
-        go g (inl (inl k)) = inl (λ at. let i = ap (kindFor t) at in let z : _≡_ {A = ℕ} 0 1 = cc in omega arith)
-        go g (inl (inr k)) = inl (λ at. let i = ap (kindFor t) at in let z : _≡_ {A = ℕ} 0 1 = cc in omega arith)
+        go g (inl (inl k)) = inl (λ at. let i = ap (kindFor t) at in no-case cc)
+        go g (inl (inr k)) = inl (λ at. let i = ap (kindFor t) at in no-case cc)
         go g (inr s) = inr s
 
   limits-alike : (b : ℕ) → b < buses t → (k : BusKind) → kindFor t b ≡ k

@@ -1,7 +1,7 @@
 -- The norm as a loop works it out, an entry more at each turn; and that it is what 01 says. Assumes nothing.
 use Prim.Native.Nat.{ℕ, zero, suc, _+_, _<_}
 use mathlib.Core.Path.{_≡_, refl, ap, _∙_}
-use mathlib.Core.Bool.{Bool, true, false, _||_, cond}
+use mathlib.Core.Bool.{Bool, true, false, cond}
 use mathlib.Core.List.{List}
 use mathlib.Core.Logic.{_⊎_, inl, inr, ⊎-elim}
 use native.Mathlib.Omega.{arith}
@@ -10,17 +10,12 @@ use native.Mathlib.Numerals.{add-one}
 use lib.ListN.{getD}
 use lib.Ieee.{Float, nan, lt, isNan, ofBits}
 use Rattle.real.specs.Tests.{nor-left, nor-right, same-or-below}
+use Rattle.real.specs.Any.{anyBelow}
+use Rattle.real.specs.Any.Laws.{one-below}
 use Rattle.real.specs.Literals.{nought}
 use Rattle.real.specs.Real.{absolute, larger, maxOf}
 use Rattle.real.specs.Real.Laws.{not-above, lt-self, nan-absolute, number-larger, max-larger}
 use Rattle.real.specs.Norm.{anyNan, largest, normOf, IsNorm}
-
-or-first : {a : Bool} (b : Bool) → a ≡ true → (a || b) ≡ true
-or-first b h = rw h
-
-or-last : (a : Bool) {b : Bool} → b ≡ true → (a || b) ≡ true
-or-last true h = refl
-or-last false h = h
 
 -- ---- step by step
 
@@ -30,16 +25,16 @@ pub record Found (k : ℕ) (l : List Float) (norm : Float) : Type 0 where
   pub most : norm ≡ largest k l
 
 pub norm-begins : (l : List Float) → Found 0 l nought
-unfolding anyNan largest
+unfolding anyBelow largest
 norm-begins l = record { real = refl; most = refl }
 
 none-more : (k : ℕ) (l : List Float) → anyNan k l ≡ false → isNan (getD l k nan) ≡ false → anyNan (suc k) l ≡ false
-unfolding anyNan
+unfolding anyBelow
 none-more k l h e = rw (h, e)
 
 -- the largest of numbers is a number
 number : (k : ℕ) (l : List Float) → anyNan k l ≡ false → isNan (largest k l) ≡ false
-unfolding anyNan largest isNan ofBits
+unfolding anyBelow largest isNan ofBits
 number zero l h = refl
 number (suc k) l h =
     number-larger (largest k l) (absolute (getD l k nan)) (number k l (nor-left (anyNan k l) _ h)) (nan-absolute (getD l k nan) ∙ nor-right (anyNan k l) _ h)
@@ -58,14 +53,9 @@ unfolding normOf
 norm-ends n l norm f = rw (f .real) (f .most)
 
 -- an entry that is NaN, met on the way
-nan-among : (n : ℕ) (l : List Float) (i : ℕ) → i < n → isNan (getD l i nan) ≡ true → anyNan n l ≡ true
-unfolding anyNan
-nan-among zero l i p e = absurd (not-suc-le-zero p)
-nan-among (suc k) l i p e = ⊎-elim (λ q. or-last (anyNan k l) (rw q at e)) (λ q. or-first (isNan (getD l k nan)) (nan-among k l i q e)) (same-or-below p)
-
 pub norm-nan : (n : ℕ) (l : List Float) (i : ℕ) → i < n → isNan (getD l i nan) ≡ true → normOf n l ≡ nan
 unfolding normOf
-norm-nan n l i p e = rw (nan-among n l i p e)
+norm-nan n l i p e = rw (one-below n (λ k. isNan (getD l k nan)) i p e)
 
 -- ---- 01's sentence
 
@@ -119,7 +109,7 @@ met (suc k) l = go (one-of (largest k l) (absolute (getD l k nan))) (met k l)
     go (inl p) (inr w) = inr (w .0, omega (arith, w .1), p ∙ w .2)
 
 pub norm-is : (n : ℕ) (l : List Float) → IsNorm n l (normOf n l)
-unfolding normOf anyNan largest
+unfolding normOf anyBelow largest
 norm-is n l = record { empty = none n; poisoned = norm-nan n l; highest = λ e i h. rw (is e) (above-each n l i h); taken = λ e. rw (is e) (met n l) }
   where
     none : (m : ℕ) → m ≡ 0 → normOf m l ≡ nought

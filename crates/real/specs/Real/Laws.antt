@@ -1,6 +1,6 @@
 -- Laws on doubles that the crates share: the order `lt`, NaN, the absolute value, the larger. Assumes nothing.
 use Prim.Native.Nat.{ℕ, zero, suc, _+_, _*_, _<_}
-use mathlib.Core.Bool.{Bool, true, false, cond}
+use mathlib.Core.Bool.{Bool, true, false}
 use mathlib.Core.Path.{_≡_, refl, sym, _∙_, subst}
 use native.Mathlib.Omega.{arith}
 use native.Mathlib.Nat.{le-refl, not-suc-le-zero, lt-trans, mul-right-comm, mul-lt-mul-of-pos-right, lt-of-mul-lt-mul-right, mul-pos, zero-mul}
@@ -9,6 +9,7 @@ use borrow.Author.Tests.{ltb-true, lt-ltb, le-ltb}
 use lib.Ieee.{Float, nan, inf, fin, up, down, lt, ne, isNan}
 use lib.Ieee.Compare.{differs-from-itself, nan-differs}
 use lib.Ieee.Fits.{down-pos}
+use Rattle.real.specs.Tests.{cond-either}
 use Rattle.real.specs.Real.{absolute, larger, maxOf}
 
 -- ---- `<` of doubles
@@ -103,11 +104,7 @@ nan-absolute (fin s m e) = refl
 
 pub number-larger : (a b : Float) → isNan a ≡ false → isNan b ≡ false → isNan (larger a b) ≡ false
 unfolding larger
-number-larger a b ha hb = go (lt a b)
-  where
-    go : (t : Bool) → isNan (cond t b a) ≡ false
-    go true = hb
-    go false = ha
+number-larger a b ha hb = cond-either (λ x. isNan x ≡ false) (lt a b) hb ha
 
 -- between numbers the maximum is the larger
 pub max-larger : (a b : Float) → isNan a ≡ false → maxOf a b ≡ larger a b

@@ -1,10 +1,10 @@
 -- `replay::next` meets its contract: only the last two ways tell of a record, as `agrees` found it. Assumes nothing.
-use mathlib.Core.Bool.{true≢false}
-use mathlib.Core.Path.{sym, _∙_}
+use mathlib.Core.Path.{sym}
 use native.Mathlib.Omega.{arith}
 use borrow.Author.Needs.{needs}
+use Rattle.real.specs.Tests.{true-false}
 use lib.Seq.{length-take-le}
-use Rattle.vectors.specs.Words.Laws.{no-record}
+use Rattle.vectors.specs.Words.Laws.{found-agreed, found-differed, no-record}
 use Rattle.replay.proofs.next.Statement.{statement}
 use Rattle.replay.proofs.next.Tie as tie
 
@@ -24,18 +24,12 @@ slice-aggregate-agrees-2 c =
 returns-5 : tie.Need-returns-5
 returns-5 c =
     let p = c .before .before .before .before .before .before .before .before .before .before .before .before .before .before .before .before in
-    let agrees = c .before .agrees .ensures .0 (c .if5 .taken) in
-    record { small = omega arith; agreed = λ e. rw (← (p .pair2 .ensures .0), ← (p .before .before .pair .ensures .0)) agrees; differed = λ e. absurd (omega arith) }
+    found-agreed (rw (← (p .pair2 .ensures .0), ← (p .before .before .pair .ensures .0)) (c .before .agrees .ensures .0 (c .if5 .taken)))
 
 returns-6 : tie.Need-returns-6
 returns-6 c =
     let p = c .before .before .before .before .before .before .before .before .before .before .before .before .before .before .before .before in
-    let agrees = c .before .agrees .ensures .1 in
-    record {
-      small = omega arith;
-      agreed = λ e. absurd (omega arith);
-      differed = λ e a. true≢false (sym (agrees (rw (p .pair2 .ensures .0, p .before .before .pair .ensures .0) a)) ∙ c .if5 .left);
-    }
+    found-differed (omega arith) (λ a. true-false (c .before .agrees .ensures .1 (rw (p .pair2 .ensures .0, p .before .before .pair .ensures .0) a)) (c .if5 .left))
 
 pub next-spec : {M : Type 1} → statement M
 next-spec =

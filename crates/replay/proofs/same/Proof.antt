@@ -1,12 +1,12 @@
 -- `replay::same` meets its contract. The invariant: the lists agree at every place passed. Assumes nothing.
-use mathlib.Core.Path.{_≡_, refl, sym, ap}
-use mathlib.Core.Bool.{true≢false}
+use mathlib.Core.Path.{_≡_, refl, ap}
 use mathlib.Core.List.{List}
 use Prim.Native.Nat.{ℕ, _-_, _≤_, _<_}
 use native.Mathlib.Omega.{arith}
 use borrow.Author.Count.{below-more}
 use lib.ListN.{length, getD}
 use lib.Seq.{ext-getD}
+use Rattle.vectors.specs.Words.Laws.{never-told}
 use Rattle.replay.proofs.same.Statement.{statement}
 use Rattle.replay.proofs.same.Tie as tie
 
@@ -17,7 +17,7 @@ abbrev μ-loop : tie.MeasureT-loop
 μ-loop a b i₀ i = length a - i
 
 returns : tie.Need-returns Inv-loop μ-loop
-returns c = (λ e. absurd (true≢false (sym e)), λ e. absurd (c .if1 .taken (ap (length {A = ℕ}) e)))
+returns c = never-told (λ e. c .if1 .taken (ap (length {A = ℕ}) e))
 
 loop-holds : tie.Need-loop-holds Inv-loop μ-loop
 loop-holds c = (omega arith, λ k h. absurd (omega arith))
@@ -25,7 +25,7 @@ loop-holds c = (omega arith, λ k h. absurd (omega arith))
 returns-2 : tie.Need-returns-2 Inv-loop μ-loop
 returns-2 c =
     let i = c .before .before .before .before .loop .i in
-    (λ e. absurd (true≢false (sym e)), λ e. absurd (c .if2 .taken (ap (λ (l : List ℕ). getD l i 0) e)))
+    never-told (λ e. c .if2 .taken (ap (λ (l : List ℕ). getD l i 0) e))
 
 loop-again : tie.Need-loop-again Inv-loop μ-loop
 loop-again c =

@@ -1,26 +1,22 @@
 -- A line's turns: the search for the next space gives the next field, of the form and of the fields. Assumes nothing.
 use mathlib.Core.Path.{_≡_, refl, sym, ap, _∙_}
 use mathlib.Core.Bool.{Bool, true, false, and-false}
-use mathlib.Core.Logic.{_⊎_, inl, inr, ⊎-elim}
+use mathlib.Core.Logic.{_⊎_, ⊎-elim}
 use mathlib.Core.List.{List, [], _∷_}
 use Prim.Native.Nat.{ℕ, suc, _+_, _≤_, _<_}
 use native.Mathlib.Omega.{arith}
-use lib.Dec.{eqb, ltb}
+use lib.Dec.{eqb}
 use lib.ListN.{length}
 use lib.Seq.{slice, length-slice}
-use borrow.Author.Tests.{ltb-true, ltb-false}
 use Rattle.fields.specs.Cut.{empty, only, upto, pieces, Found}
-use Rattle.real.specs.Tests.{decided, true-false, and-left}
-use Rattle.fields.specs.Cut.Laws.{found, slice-some, slice-none}
+use Rattle.real.specs.Tests.{true-false, and-left, below-or}
+use Rattle.fields.specs.Cut.Laws.{only-is, found, slice-some, slice-none}
 use Rattle.rows.specs.Asked.{letterOf, wantOf, goodOf}
 use Rattle.rows.specs.Line.{allSome, spacedOf, formOf, fieldsOf, tail}
 use Rattle.rows.specs.declared.Section.{Section}
 use Rattle.rows.specs.declared.Section.the-variants as Section
 use Rattle.rows.specs.declared.Want.{Want}
 use Rattle.rows.specs.declared.Check.the-variants as Check
-
-pub below-or : (a b : ℕ) → (a < b) ⊎ (b ≤ a)
-below-or a b = ⊎-elim (λ t. inl (ltb-true a b t)) (λ t. inr (ltb-false a b t)) (decided (ltb a b))
 
 -- ---- the form
 
@@ -52,11 +48,6 @@ no-fields Section.G f = and-false (only 71 f)
 no-fields Section.L f = and-false (only 76 f)
 no-fields Section.Y f = and-false (only 89 f)
 
-only-long : (x : ℕ) (l : List ℕ) → only x l ≡ true → length l ≡ 1
-only-long x [] h = absurd (true-false h refl)
-only-long x (b ∷ []) h = refl
-only-long x (b ∷ c ∷ r) h = absurd (true-false h (and-false (eqb b x)))
-
 -- where the form is good the fields start two bytes behind the line's start
 module _ (s : List ℕ) (a e : ℕ) (t : Section) (h : a ≤ e) (k : e ≤ length s) (g : formOf t (pieces 32 (slice a e s)) ≡ true) where
   letter-first : (p : ℕ) → Found s a e 32 p → (p < e) × (p ≡ a + 1)
@@ -66,7 +57,7 @@ module _ (s : List ℕ) (a e : ℕ) (t : Section) (h : a ≤ e) (k : e ≤ lengt
         q,
         (let w : formOf t (slice a p s ∷ pieces 32 (slice (p + 1) e s)) ≡ true = rw (f .more q) at g in
             let i : p ≤ length s = omega (arith, f .high) in
-            omega (arith, f .low, only-long (letterOf t) (slice a p s) (and-left _ _ w), length-slice a p s i)),
+            omega (arith, f .low, ap length (only-is (letterOf t) (slice a p s) (and-left _ _ w)), length-slice a p s i)),
       ))
       (λ q. absurd (true-false (rw (f .last q) at g) (no-fields t (slice a p s))))
       (below-or p e)

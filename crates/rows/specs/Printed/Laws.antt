@@ -11,7 +11,8 @@ use lib.Dec.{eqb, leb}
 use lib.ListN.{length, getD}
 use borrow.Author.Tests.{eqb-true, leb-false}
 use Rattle.fields.specs.Cut.{empty, only, pieces, onto}
-use Rattle.real.specs.Tests.{decided, true-false, and-left, and-right}
+use Rattle.fields.specs.Cut.Laws.{empty-is, only-is}
+use Rattle.real.specs.Tests.{decided, true-false, no-case, and-left, and-right}
 use Rattle.rows.specs.Asked.{letterOf, countOf, sizeOf, wantOf, goodOf}
 use Rattle.rows.specs.Line.{allSome, formOf, fieldsOf, lineOf, tail}
 use Rattle.rows.specs.Rows.{after, sectionOf, checkOf, ended, rowsOf}
@@ -48,11 +49,6 @@ join-pieces x (b ∷ r) =
 
 -- ---- a line
 
-only-is : (x : ℕ) (l : List ℕ) → only x l ≡ true → l ≡ x ∷ []
-only-is x [] h = absurd (true-false h refl)
-only-is x (b ∷ []) h = rw (eqb-true b x (and-left _ _ h))
-only-is x (b ∷ c ∷ r) h = absurd (true-false h (and-false (eqb b x)))
-
 formed : (t : Section) (ps : List (List ℕ)) → formOf t ps ≡ true → join 32 ps ≡ letterOf t ∷ spread 32 (tail ps)
 formed t [] h = absurd (true-false h refl)
 formed t (f ∷ fs) h = rw (only-is (letterOf t) f (and-left _ _ h))
@@ -64,10 +60,10 @@ line-printed t l h = sym (join-pieces 32 l) ∙ formed t (pieces 32 l) h
 -- ---- what a good answer says of the tests on the way
 
 never : {A : Type 0} (v : Check) (n : ℕ) → v ≡ Check.Good n → (after v (Check.Rows 0) ≡ v) → A
-never (Check.Good n) k p q = absurd (let z : _≡_ {A = ℕ} 0 1 = cc in omega arith)
-never (Check.Rows n) k p q = absurd (let z : _≡_ {A = ℕ} 0 1 = cc in omega arith)
-never (Check.Form n) k p q = absurd (let z : _≡_ {A = ℕ} 0 1 = cc in omega arith)
-never (Check.Field n) k p q = absurd (let z : _≡_ {A = ℕ} 0 1 = cc in omega arith)
+never (Check.Good n) k p q = no-case cc
+never (Check.Rows n) k p q = no-case cc
+never (Check.Form n) k p q = no-case cc
+never (Check.Field n) k p q = no-case cc
 
 after-rest : (v w : Check) (n : ℕ) → after v w ≡ Check.Good n → w ≡ Check.Good n
 after-rest (Check.Good k) w n h = h
@@ -78,10 +74,6 @@ after-rest (Check.Field k) w n h = never (Check.Field k) n h refl
 line-form : (t : Section) (at : ℕ) (l : List ℕ) (w : Check) (n : ℕ) → after (lineOf t at l) w ≡ Check.Good n → formOf t (pieces 32 l) ≡ true
 line-form t at l w n h =
     ⊎-elim (λ p. p) (λ p. never (Check.Form at) n (rw p at h) refl) (decided (formOf t (pieces 32 l)))
-
-empty-is : (l : List ℕ) → empty l ≡ true → l ≡ []
-empty-is [] h = refl
-empty-is (b ∷ r) h = absurd (true-false h refl)
 
 neither : {A : Type 0} (b : Bool) (at n : ℕ) → cond b (Check.Rows at) (Check.Form at) ≡ Check.Good n → A
 neither true at n h = never (Check.Rows at) n h refl

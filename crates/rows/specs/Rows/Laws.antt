@@ -10,11 +10,10 @@ use lib.ListN.{length}
 use lib.Seq.{slice, length-slice}
 use borrow.Author.Tests.{le-leb, lt-leb}
 use Rattle.fields.specs.Cut.{empty, pieces, onto, Found}
-use Rattle.real.specs.Tests.{decided}
+use Rattle.real.specs.Tests.{decided, below-or}
 use Rattle.fields.specs.Cut.Laws.{slice-some, slice-none}
 use Rattle.rows.specs.Asked.{sizeOf}
 use Rattle.rows.specs.Line.{lineOf}
-use Rattle.rows.specs.Line.Laws.{below-or}
 use Rattle.rows.specs.Rows.{after, sectionOf, ended, rowsOf}
 use Rattle.rows.specs.declared.Section.{Section}
 use Rattle.rows.specs.declared.Check.{Check}

@@ -6,7 +6,7 @@ use lib.ListN.{length, getD}
 use Rattle.real.specs.Literals.{nought}
 use Rattle.layout.specs.Table.{table}
 use Rattle.starts.specs.References.{noSlack, slackOf, angleOf}
-use Rattle.starts.specs.References.Laws.{slacks-begin, angles-begin, slacks-more, angles-more}
+use Rattle.starts.specs.References.Laws.{rows-begin, rows-more}
 use Rattle.starts.proofs.by_island.Statement.{statement}
 use Rattle.starts.proofs.by_island.Tie as tie
 
@@ -24,7 +24,7 @@ label : (c : tie.In-loop Inv-loop μ-loop) → getD (c .before .before .args .t3
 label c = c .before .before .pre .2 (c .before .loop .i) (omega arith)
 
 loop-holds : tie.Need-loop-holds Inv-loop μ-loop
-loop-holds c = let a = c .args in (omega arith, refl, slacks-begin (a .slacks .now) (a .t3), angles-begin (a .slacks .now) (a .t3) (a .va-slacks .now))
+loop-holds c = let a = c .args in (omega arith, refl, rows-begin (a .slacks .now) (a .t3) _ _, rows-begin (a .slacks .now) (a .t3) _ _)
 
 mul-l : tie.Need-mul-l Inv-loop μ-loop
 mul-l c = omega (arith, bus (c .before))
@@ -45,7 +45,7 @@ array-write-va : tie.Need-array-write-va Inv-loop μ-loop
 array-write-va c = omega (arith, bus (c .before .before), label (c .before .before))
 
 loop-again : tie.Need-loop-again Inv-loop μ-loop
-loop-again c = let i = c .before .before in let l = i .before .loop in let a = i .before .before .args in (omega arith, l .inv .1, rw (l .inv .2) (slacks-more (a .slacks .now) (a .t3) (l .i) (label i)), rw (l .inv .3) (angles-more (a .slacks .now) (a .t3) (l .i) (label i) (a .va-slacks .now)))
+loop-again c = let i = c .before .before in let l = i .before .loop in let a = i .before .before .args in (omega arith, l .inv .1, rw (l .inv .2) (rows-more (a .slacks .now) (a .t3) _ _ (l .i) (label i)), rw (l .inv .3) (rows-more (a .slacks .now) (a .t3) _ _ (l .i) (label i)))
 
 returns : tie.Need-returns Inv-loop μ-loop
 returns c = let l = c .before .loop in let e : l .i ≡ length (c .before .before .args .slacks .now) = omega arith in rw (l .inv .2, l .inv .3, e)

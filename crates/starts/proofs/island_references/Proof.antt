@@ -10,7 +10,7 @@ use Rattle.real.specs.Literals.{nought}
 use Rattle.layout.specs.Table.{stores, table}
 use Rattle.starts.specs.declared.References.{References}
 use Rattle.starts.specs.References.{noSlack, slackFor, referenceFor, referencesOf}
-use Rattle.starts.specs.References.Laws.{label-small, slack-at, angle-at}
+use Rattle.starts.specs.References.Laws.{label-small, row-at}
 use Rattle.starts.proofs.island_references.Statement.{statement}
 use Rattle.starts.proofs.island_references.Tie as tie
 
@@ -51,7 +51,7 @@ element-copy-out-va c = omega (arith, here (c .before))
 
 loop-again : tie.Need-loop-again Inv-loop μ-loop
 unfolding stores
-loop-again c = let i = c .before .before in let l = i .before .loop in let y = i .before .before in let d = y .before in let s = d .before .before .before .before .before in let a = s .args in let at = getD (d .dense-islands .result) (l .b) 0 in (omega arith, rw (add-one, ← l .inv .1) (ap (set (l .slack) (l .b)) (ap (λ (r : References). getD (r .slack) at 0) (y .by-island .ensures) ∙ slack-at (a .n) (a .slacks .now) (a .br-from .now) (a .br-to .now) (d .dense-islands .result) (s .pre .0) (s .pre .2) (d .dense-islands .ensures) (l .b) (omega arith))), rw (add-one, ← l .inv .2) (ap (set (l .va) (l .b)) (ap (λ (r : References). getD (r .va) at nan) (y .by-island .ensures) ∙ angle-at (a .n) (a .slacks .now) (a .br-from .now) (a .br-to .now) (d .dense-islands .result) (s .pre .0) (s .pre .2) (d .dense-islands .ensures) (a .va-slacks .now) (l .b) (omega arith))))
+loop-again c = let i = c .before .before in let l = i .before .loop in let y = i .before .before in let d = y .before in let s = d .before .before .before .before .before in let a = s .args in let at = getD (d .dense-islands .result) (l .b) 0 in (omega arith, rw (add-one, ← l .inv .1) (ap (set (l .slack) (l .b)) (ap (λ (r : References). getD (r .slack) at 0) (y .by-island .ensures) ∙ row-at (a .n) (a .slacks .now) (a .br-from .now) (a .br-to .now) (d .dense-islands .result) (s .pre .0) (s .pre .2) (d .dense-islands .ensures) _ _ _ (l .b) (omega arith))), rw (add-one, ← l .inv .2) (ap (set (l .va) (l .b)) (ap (λ (r : References). getD (r .va) at nan) (y .by-island .ensures) ∙ row-at (a .n) (a .slacks .now) (a .br-from .now) (a .br-to .now) (d .dense-islands .result) (s .pre .0) (s .pre .2) (d .dense-islands .ensures) _ _ _ (l .b) (omega arith))))
 
 returns : tie.Need-returns Inv-loop μ-loop
 unfolding referencesOf

@@ -8,54 +8,36 @@ use native.Mathlib.Numerals.{add-one}
 use native.Mathlib.Omega.{arith}
 use lib.Dec.{eqb}
 use lib.ListN.{length, getD, set, replicate}
-use lib.Ieee.{Float, nan}
-use Rattle.real.specs.Literals.{nought}
+use lib.Ieee.{Float}
 use Rattle.layout.specs.Table.{table, Below}
 use Rattle.layout.specs.Table.Laws.{table-at, table-set, stores-ext, table-same}
 use Rattle.islands.specs.Islands.{labelOf, labelsOf, tableOf}
 use Rattle.islands.specs.Islands.Laws.{labels-le}
 use Rattle.islands.specs.Islands.Laws as Islands
-use Rattle.starts.specs.References.{noSlack, slackOf, angleOf, slackFor, referenceFor, referencesOf, Slacks}
+use Rattle.starts.specs.References.{noSlack, laterRow, slackOf, slackFor, referencesOf, Slacks}
 
--- ---- row by row
+-- ---- row by row, for any value of a row
 
-module _ (slacks labels : List ℕ) where
+module _ {A : Type 0} (slacks labels : List ℕ) (f : ℕ → A) (z : A) where
   abbrev label : ℕ → ℕ
   label b = getD labels b 0
 
-  pub slacks-begin : replicate 32 noSlack ≡ table 32 noSlack (slackOf 0 slacks label)
-  unfolding slackOf
-  slacks-begin = sym (table-same 32 noSlack)
+  pub rows-begin : replicate 32 z ≡ table 32 z (laterRow 0 slacks label f z)
+  unfolding laterRow
+  rows-begin = sym (table-same 32 z)
 
-  pub angles-begin : (angles : List Float) → replicate 32 nought ≡ table 32 nought (angleOf 0 slacks angles label)
-  unfolding angleOf
-  angles-begin angles = sym (table-same 32 nought)
+  pub rows-more : (k : ℕ) → label (getD slacks k 0) < 32 → set (table 32 z (laterRow k slacks label f z)) (label (getD slacks k 0)) (f k) ≡ table 32 z (laterRow (k + 1) slacks label f z)
+  unfolding laterRow
+  rows-more k below =
+      table-set 32 z (laterRow k slacks label f z) (label (getD slacks k 0)) (f k) below (le-refl 32)
+      ∙ rw add-one (stores-ext _ (laterRow (suc k) slacks label f z) 32 (replicate 32 z) (λ b h. refl))
 
-  module _ (k : ℕ) (below : label (getD slacks k 0) < 32) where
-    pub slacks-more : set (table 32 noSlack (slackOf k slacks label)) (label (getD slacks k 0)) (getD slacks k 0) ≡ table 32 noSlack (slackOf (k + 1) slacks label)
-    unfolding slackOf
-    slacks-more =
-        table-set 32 noSlack (slackOf k slacks label) (label (getD slacks k 0)) (getD slacks k 0) below (le-refl 32)
-        ∙ rw add-one (stores-ext _ (slackOf (suc k) slacks label) 32 (replicate 32 noSlack) (λ b h. refl))
-
-    pub angles-more : (angles : List Float)
-        → set (table 32 nought (angleOf k slacks angles label)) (label (getD slacks k 0)) (getD angles k nan) ≡ table 32 nought (angleOf (k + 1) slacks angles label)
-    unfolding angleOf
-    angles-more angles =
-        table-set 32 nought (angleOf k slacks angles label) (label (getD slacks k 0)) (getD angles k nan) below (le-refl 32)
-        ∙ rw add-one (stores-ext _ (angleOf (suc k) slacks angles label) 32 (replicate 32 nought) (λ b h. refl))
-
--- ---- only the labels of slack buses count
-
-slack-ext : (k : ℕ) (slacks : List ℕ) (f g : ℕ → ℕ) (l : ℕ) → ((i : ℕ) → i < k → f (getD slacks i 0) ≡ g (getD slacks i 0)) → slackOf k slacks f l ≡ slackOf k slacks g l
-unfolding slackOf
-slack-ext zero slacks f g l h = refl
-slack-ext (suc k) slacks f g l h = rw (slack-ext k slacks f g l (λ i p. h i (omega arith)), h k (omega arith))
-
-angle-ext : (k : ℕ) (slacks : List ℕ) (angles : List Float) (f g : ℕ → ℕ) (l : ℕ) → ((i : ℕ) → i < k → f (getD slacks i 0) ≡ g (getD slacks i 0)) → angleOf k slacks angles f l ≡ angleOf k slacks angles g l
-unfolding angleOf
-angle-ext zero slacks angles f g l h = refl
-angle-ext (suc k) slacks angles f g l h = rw (angle-ext k slacks angles f g l (λ i p. h i (omega arith)), h k (omega arith))
+-- only the labels of slack buses count
+rows-ext : {A : Type 0} (k : ℕ) (slacks : List ℕ) (f g : ℕ → ℕ) (x : ℕ → A) (z : A) (l : ℕ) → ((i : ℕ) → i < k → f (getD slacks i 0) ≡ g (getD slacks i 0))
+    → laterRow k slacks f x z l ≡ laterRow k slacks g x z l
+unfolding laterRow
+rows-ext zero slacks f g x z l h = refl
+rows-ext (suc k) slacks f g x z l h = rw (rows-ext k slacks f g x z l (λ i p. h i (omega arith)), h k (omega arith))
 
 -- ---- bus by bus, with the labels that dense_islands gives
 
@@ -66,22 +48,17 @@ module _ (n : ℕ) (slacks : List ℕ) (from to labels : List ℕ) (few : n ≤ 
   pub label-small : (b : ℕ) → b < n → getD labels b 0 < 32
   label-small b h = rw (labelled b h) (let l = labels-le from to b in omega arith)
 
-  pub slack-at : (b : ℕ) → b < n → getD (table 32 noSlack (slackOf (length slacks) slacks (λ i. getD labels i 0))) (getD labels b 0) 0 ≡ slackFor slacks from to b
-  slack-at b h =
-      table-at 32 noSlack _ (getD labels b 0) 0 (label-small b h) (le-refl 32)
-      ∙ slack-ext (length slacks) slacks (λ i. getD labels i 0) (labelOf from to) (getD labels b 0) (λ i p. labelled (getD slacks i 0) (below i p))
-      ∙ ap (slackOf (length slacks) slacks (labelOf from to)) (labelled b h)
-
-  pub angle-at : (angles : List Float) (b : ℕ) → b < n → getD (table 32 nought (angleOf (length slacks) slacks angles (λ i. getD labels i 0))) (getD labels b 0) nan ≡ referenceFor slacks angles from to b
-  angle-at angles b h =
-      table-at 32 nought _ (getD labels b 0) nan (label-small b h) (le-refl 32)
-      ∙ angle-ext (length slacks) slacks angles (λ i. getD labels i 0) (labelOf from to) (getD labels b 0) (λ i p. labelled (getD slacks i 0) (below i p))
-      ∙ ap (angleOf (length slacks) slacks angles (labelOf from to)) (labelled b h)
+  pub row-at : {A : Type 0} (f : ℕ → A) (z d : A) (b : ℕ) → b < n
+      → getD (table 32 z (laterRow (length slacks) slacks (λ i. getD labels i 0) f z)) (getD labels b 0) d ≡ laterRow (length slacks) slacks (labelOf from to) f z (labelOf from to b)
+  row-at f z d b h =
+      table-at 32 z _ (getD labels b 0) d (label-small b h) (le-refl 32)
+      ∙ rows-ext (length slacks) slacks (λ i. getD labels i 0) (labelOf from to) f z (getD labels b 0) (λ i p. labelled (getD slacks i 0) (below i p))
+      ∙ ap (laterRow (length slacks) slacks (labelOf from to) f z) (labelled b h)
 
 -- ---- a slack is one of the rows'
 
 one-of : (k n : ℕ) (slacks : List ℕ) (label : ℕ → ℕ) (l : ℕ) → ((i : ℕ) → i < k → getD slacks i 0 < n) → slackOf k slacks label l < 32 → slackOf k slacks label l < n
-unfolding slackOf
+unfolding laterRow
 one-of zero n slacks label l h p = absurd (omega arith)
 one-of (suc k) n slacks label l h p = go (eqb l (label (getD slacks k 0))) p (one-of k n slacks label l (λ i q. h i (omega arith)))
   where
