@@ -62,7 +62,9 @@ less-one (fin false m e) h = go (ltb a b) refl
     rounded n l = round-at-most 0 n c (let d = down-pos e in omega arith) (omega arith) (unfold round in refl)
 
     go : (t : Bool) → ltb a b ≡ t → Small (cond t (round binary64 true (b - a) c) (round binary64 (false && ltb b a) (a - b) c))
-    go true q = let l = ltb-true a b q in subst Small (neg-round binary64 false (b - a) c) (small-below (round binary64 false (b - a) c) (rounded (b - a) (omega arith)))
+    go true q =
+        let l = ltb-true a b q in
+        subst Small (neg-round binary64 false (b - a) c) (small-below (round binary64 false (b - a) c) (rounded (b - a) (omega arith)))
     go false q = let l = ltb-false a b q in small-above (round binary64 false (a - b) c) (rounded (a - b) (omega arith))
 
 pub mix-small : (a b : ℕ) → Small (mixOf a b)

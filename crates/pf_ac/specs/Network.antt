@@ -44,7 +44,8 @@ pub record Network : Type 0 where
   pub y-im : List Float
   pub start : AcStart
 
-abbrev pub network : List ℕ → List Float → List Float → List Float → List Float → List Float → List Float → List Float → List ℕ → List Float → List ℕ → List Float → List Float → List ℕ → List ℕ → List ℕ → List ℕ → List Float → List Float → AcStart → Network
+abbrev pub network : List ℕ → List Float → List Float → List Float → List Float → List Float → List Float → List Float → List ℕ → List Float → List ℕ → List Float
+    → List Float → List ℕ → List ℕ → List ℕ → List ℕ → List Float → List Float → AcStart → Network
 network kind vm-set pd qd pg qg vm-case va-case slacks va-slacks gen-bus qmin qmax br-from br-to y-row y-col y-re y-im start =
     record {
       kind = kind;
@@ -103,7 +104,8 @@ abbrev pub kindsFor : Network → List BusKind
 kindsFor t = kindsOf (buses t) (t .kind) (t .slacks)
 
 abbrev pub studyFor : Network → Study
-studyFor t = study (buses t) (tripletsOf t) (t .pd) (t .qd) (t .pg) (columnOf (buses t) (t .qg)) (limitsOf (t .gen-bus) (t .qmin) (t .qmax)) (columnOf (buses t) (t .vm-set))
+studyFor t =
+    study (buses t) (tripletsOf t) (t .pd) (t .qd) (t .pg) (columnOf (buses t) (t .qg)) (limitsOf (t .gen-bus) (t .qmin) (t .qmax)) (columnOf (buses t) (t .vm-set))
 
 abbrev pub referencesFor : Network → References
 referencesFor t = referencesOf (buses t) (t .slacks) (t .va-slacks) (t .br-from) (t .br-to)

@@ -22,7 +22,8 @@ module _ (g : ℕ → ℕ) (has : ℕ → Bool) (turn : (k : ℕ) → g (suc k) 
 
   pub rising : (i j : ℕ) → i ≤ j → g i ≤ g j
   rising i zero p = let e : i ≡ 0 = omega arith in rw e (le-refl (g 0))
-  rising i (suc j) p = ⊎-elim (λ e. rw e (le-refl (g (suc j)))) (λ l. let a = rising i j (le-of-suc-le-suc l) in let s = step j .0 in omega arith) (eq-or-lt-of-le p)
+  rising i (suc j) p =
+      ⊎-elim (λ e. rw e (le-refl (g (suc j)))) (λ l. let a = rising i j (le-of-suc-le-suc l) in let s = step j .0 in omega arith) (eq-or-lt-of-le p)
 
   pub strictly : (i j : ℕ) → has i ≡ true → i < j → g i < g j
   strictly i j h p = let a = rising (suc i) j p in let s = counted i h in omega arith

@@ -16,7 +16,7 @@ use Rattle.islands.specs.Islands.{groupOf, lowest, tally, labelsOf}
 use Rattle.layout.specs.Kinds.{kindsOf}
 use Rattle.layout.specs.Layout.{angleCount, magnitudeCount, layoutOf}
 use Rattle.layout.specs.Limits.{sumAt, limitsOf}
-use Rattle.layout.specs.Table.{stores}
+use Rattle.layout.specs.Table.{stores, allBelow}
 use Rattle.injections.specs.Injections.{voltagesOf, currentsTo, phasorsOf, injectedOf}
 use Rattle.newton.specs.Newton.{measuredOf, stepsFrom, newtonOf}
 use Rattle.moves.specs.Moves.{moveOf, movesOf, pinned, lettersOf}
@@ -25,7 +25,7 @@ use Rattle.starts.specs.References.{laterRow, referencesOf}
 use Rattle.starts.specs.Starts.{caseOf, flatOf}
 use Rattle.pf_ac.specs.Network.{Network, network, acPfOf}
 use Rattle.pf_ac.specs.Search.{startOf, betterOf, tryOf, searchFrom, searchOf}
-use Rattle.tables.specs.Tables.{Outs, outs, answer, ok, allBelow, counted, roomy, numbered, writtenOf, zeros, ranOf, solveOf}
+use Rattle.tables.specs.Tables.{Outs, outs, answer, ok, counted, roomy, numbered, writtenOf, zeros, ranOf, solveOf}
 use Rattle.pf_ac.specs.declared.AcStart.{AcStart}
 use Rattle.pf_ac.specs.declared.AcStart.the-variants.{Flat, Case}
 
@@ -48,7 +48,8 @@ abbrev empty : AcStart → Network
 empty start = network [] [] [] [] [] [] [] [] [] [] [] [] [] [] [] [] [] [] [] start
 
 -- "Zero buses is solved, with nothing in the answer": the columns stay as they were
-pub no-buses-solved : (start : AcStart) (o : Outs) (w : List Float) → roomy (empty start) o w ≡ true → solveOf (empty start) o w ≡ answer (ok 0 (double 0)) o (zeros w)
+pub no-buses-solved : (start : AcStart) (o : Outs) (w : List Float) → roomy (empty start) o w ≡ true
+    → solveOf (empty start) o w ≡ answer (ok 0 (double 0)) o (zeros w)
 unfolding normOf absolute sinCosOf groupOf lowest tally each labelsOf anyBelow kindsOf angleCount magnitudeCount layoutOf sumAt limitsOf stores voltagesOf currentsTo phasorsOf injectedOf measuredOf stepsFrom newtonOf moveOf movesOf pinned lettersOf roundOf roundsFrom qlimOf laterRow referencesOf flatOf acPfOf startOf betterOf tryOf searchFrom searchOf both allBelow counted numbered writtenOf ranOf solveOf ofInt ofBits add sub mul div neg lt le isNan caseOf
 no-buses-solved Flat o w h = ap (λ (r : Bool). cond r (ranOf (empty Flat) o w (acPfOf (empty Flat) w)) (answer (refused 9 []) o w)) h
 no-buses-solved Case o w h = ap (λ (r : Bool). cond r (ranOf (empty Case) o w (acPfOf (empty Case) w)) (answer (refused 9 []) o w)) h

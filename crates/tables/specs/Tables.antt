@@ -1,16 +1,16 @@
 -- 01, "Tables and sizes": what the solve over tables answers, what it leaves in the five answer columns and in the workspace, refusals included.
 pub mod Laws
 pub mod Withheld
-use Prim.Native.Nat.{ℕ, zero, suc}
-use mathlib.Core.Bool.{Bool, true, cond}
+use Prim.Native.Nat.{ℕ}
+use mathlib.Core.Bool.{Bool, cond}
 use mathlib.Core.List.{List, [], _∷_}
-use lib.Dec.{leb, ltb, eqb}
+use lib.Dec.{leb, eqb}
 use lib.ListN.{length, getD, replicate}
 use lib.Ieee.{Float, nan}
 use Rattle.real.specs.Tests.{both}
 use Rattle.real.specs.Paper.{Paper, given, refused, whole, real}
 use Rattle.real.specs.Literals.{nought}
-use Rattle.layout.specs.Table.{stores}
+use Rattle.layout.specs.Table.{stores, allBelow}
 use Rattle.injections.specs.Injections.{Ybus, injectionsOf}
 use Rattle.qlim.specs.declared.Settled.{Settled}
 use Rattle.pf_ac.specs.declared.AcPf.the-variants as AcPf
@@ -51,11 +51,6 @@ same3 n a b c = both (eqb a n) (both (eqb b n) (eqb c n))
 
 abbrev pub same7 : ℕ → ℕ → ℕ → ℕ → ℕ → ℕ → ℕ → ℕ → Bool
 same7 n a b c d e f g = both (same3 n a b c) (both (eqb d n) (same3 n e f g))
-
--- the first k numbers are below n
-unfoldable pub allBelow : ℕ → ℕ → List ℕ → Bool
-allBelow zero n l = true
-allBelow (suc k) n l = both (allBelow k n l) (ltb (getD l k 0) n)
 
 -- no "count over its size", no "input columns of one table differ in length": of the nineteen lengths
 abbrev pub countedBy : ℕ → ℕ → ℕ → ℕ → ℕ → ℕ → ℕ → ℕ → ℕ → ℕ → ℕ → ℕ → ℕ → ℕ → ℕ → ℕ → ℕ → ℕ → ℕ → Bool

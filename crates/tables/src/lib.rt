@@ -9,7 +9,7 @@ ghost use lib.Ieee.{nan};
 ghost use Rattle.layout.specs.Table.{stores};
 ghost use Rattle.injections.specs.Injections.{ybus, Good};
 ghost use Rattle.pf_ac.specs.Network.{network};
-ghost use Rattle.tables.specs.Tables.{same3, same7, allBelow, countedBy, roomyBy, numberedBy, outs, writtenOf, zeros, paperOf, answer, solveOf};
+ghost use Rattle.tables.specs.Tables.{same3, same7, countedBy, roomyBy, numberedBy, outs, writtenOf, zeros, paperOf, answer, solveOf};
 
 // What the call answers. Each refusal is one of the paper's: Counts is 7, Room 9, Bus 8, NotConverged 10.
 pub enum Outcome {
@@ -32,17 +32,6 @@ fn equal7(n: usize, a: usize, b: usize, c: usize, d: usize, e: usize, f: usize, 
     ensures { λ r. ⌜ r ≡ same7 n a b c d e f g ⌝ }
 {
     real::and(equal3(n, a, b, c), real::and(d == n, equal3(n, e, f, g)))
-}
-
-// Whether each number of the column is below n.
-fn below(n: usize, l: &[usize]) -> bool
-    ensures { λ r. ⌜ r ≡ allBelow (length (now (l .entry))) n (now (l .entry)) ⌝ }
-{
-    let mut ok = true;
-    for i in 0..l.len() {
-        ok = real::and(ok, l[i] < n);
-    }
-    ok
 }
 
 // Refusal 7, of the lengths of the nineteen columns.
@@ -106,12 +95,15 @@ fn numbered(
     ensures { λ r. ⌜ r ≡ numberedBy n (now (slacks .entry)) (now («gen_bus» .entry)) (now («br_from» .entry)) (now («br_to» .entry)) (now («y_row» .entry)) (now («y_col» .entry)) ⌝ }
 {
     real::and(
-        below(n, slacks),
+        layout::below(n, slacks),
         real::and(
-            below(n, gen_bus),
+            layout::below(n, gen_bus),
             real::and(
-                below(n, br_from),
-                real::and(below(n, br_to), real::and(below(n, y_row), below(n, y_col))),
+                layout::below(n, br_from),
+                real::and(
+                    layout::below(n, br_to),
+                    real::and(layout::below(n, y_row), layout::below(n, y_col)),
+                ),
             ),
         ),
     )

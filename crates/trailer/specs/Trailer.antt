@@ -46,20 +46,12 @@ offsetOf Section.G = 13
 offsetOf Section.L = 19
 offsetOf Section.Y = 25
 
--- and where the next one's number stands
-abbrev pub nextOf : Section → ℕ
-nextOf Section.B = 7
-nextOf Section.R = 13
-nextOf Section.G = 19
-nextOf Section.L = 25
-nextOf Section.Y = 31
-
--- a section's bytes stand from its start up to the next start
+-- a section's bytes stand from its start up to the next start, whose number stands six bytes on
 abbrev pub startOf : Section → List ℕ → ℕ → ℕ
 startOf z s t = startAt s (t + offsetOf z)
 
 abbrev pub endOf : Section → List ℕ → ℕ → ℕ
-endOf z s t = startAt s (t + nextOf z)
+endOf z s t = startAt s (t + (offsetOf z + 6))
 
 abbrev pub placesOf : List ℕ → ℕ → Places
 placesOf s t = record {

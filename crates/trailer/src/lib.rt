@@ -4,7 +4,7 @@ use rows::Section;
 ghost use mathlib.Core.Path.{_≡_};
 ghost use Prim.Native.Nat.{_+_, _-_, _*_, _≤_};
 ghost use lib.ListN.{length};
-ghost use Rattle.trailer.specs.Trailer.{groupOf, startAt, risingOf, flagged, modeOf, trailerOf, offsetOf, nextOf, startOf, endOf, placesOf};
+ghost use Rattle.trailer.specs.Trailer.{groupOf, startAt, risingOf, flagged, modeOf, trailerOf, offsetOf, startOf, endOf, placesOf};
 
 // Which start a text asks for.
 pub enum Start {
@@ -136,18 +136,6 @@ fn offset(z: Section) -> usize
     }
 }
 
-fn next_offset(z: Section) -> usize
-    ensures { λ r. ⌜ (r ≡ nextOf z) × (r ≤ 31) ⌝ }
-{
-    match z {
-        Section::B => 7,
-        Section::R => 13,
-        Section::G => 19,
-        Section::L => 25,
-        Section::Y => 31,
-    }
-}
-
 // Where a section starts.
 pub fn start_of(s: &[u8], t: usize, z: Section) -> usize
     requires { ⌜ t + 38 ≤ length (now s) ⌝ }
@@ -157,12 +145,12 @@ pub fn start_of(s: &[u8], t: usize, z: Section) -> usize
     start_at(s, t + k)
 }
 
-// Where a section ends: at the next one's start.
+// Where a section ends: at the next one's start, whose number stands six bytes on.
 pub fn end_of(s: &[u8], t: usize, z: Section) -> usize
     requires { ⌜ t + 38 ≤ length (now s) ⌝ }
     ensures { λ r. ⌜ r ≡ endOf z (now (s .entry)) t ⌝ }
 {
-    let k = next_offset(z);
+    let k = offset(z) + 6;
     start_at(s, t + k)
 }
 

@@ -31,7 +31,8 @@ le-is a b q same-q other-q = go (ltb a b) refl
 module _ (m : ℕ) (e : ℤ) where
   above-test : le (fin false m e) (fin false 1 (pos 10)) ≡ not (ltb (1024 * down e) (m * up e * 1))
   unfolding le
-  above-test = le-is (m * up e * 1) (1024 * down e) (eqb (m * up e * 1) (1024 * down e)) (eq-eqb (m * up e * 1) (1024 * down e)) (ne-eqb (m * up e * 1) (1024 * down e))
+  above-test =
+      le-is (m * up e * 1) (1024 * down e) (eqb (m * up e * 1) (1024 * down e)) (eq-eqb (m * up e * 1) (1024 * down e)) (ne-eqb (m * up e * 1) (1024 * down e))
 
   below-test : le (fin true 1 (pos 10)) (fin true m e) ≡ not (ltb (1024 * down e) (m * up e * 1))
   unfolding le

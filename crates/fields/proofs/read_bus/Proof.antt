@@ -28,7 +28,10 @@ returns-3 c =
     rw (slice-step (a .s .now) (a .a) (a .e) (omega arith) (omega arith), slice-some (a .s .now) (a .a + 1) (a .e) (omega arith) (omega arith), eq-eqb _ 48 (c .before .if3 .taken), and-false)
 
 whole-requires : tie.Need-whole-requires
-whole-requires c κs = (search needs, le-trans (omega arith) (tens (c .before .before .before .before .before .before .args .e - c .before .before .before .before .before .before .args .a) (omega arith)))
+whole-requires c κs = (
+  search needs,
+  le-trans (omega arith) (tens (c .before .before .before .before .before .before .args .e - c .before .before .before .before .before .before .args .a) (omega arith)),
+)
 
 returns-4 : tie.Need-returns-4
 returns-4 c =
@@ -38,7 +41,10 @@ returns-4 c =
     ∙ rw (slice-step (a .s .now) (a .a) (a .e) (omega arith) (omega arith), slice-none (a .s .now) (a .a + 1) (a .e) (omega arith), eq-eqb _ 48 (c .before .before .if3 .taken))
 
 whole-requires-2 : tie.Need-whole-requires-2
-whole-requires-2 c κs = (search needs, le-trans (omega arith) (tens (c .before .before .before .before .before .args .e - c .before .before .before .before .before .args .a) (omega arith)))
+whole-requires-2 c κs = (
+  search needs,
+  le-trans (omega arith) (tens (c .before .before .before .before .before .args .e - c .before .before .before .before .before .args .a) (omega arith)),
+)
 
 returns-5 : tie.Need-returns-5
 returns-5 c =

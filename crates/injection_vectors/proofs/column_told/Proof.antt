@@ -17,4 +17,14 @@ returns-2 c =
     last-told (c .equal2 .ensures) (λ h. ap (λ (x : Column). x .im) h ∙ sym im) (λ e. column-parts _ _ _ re (e ∙ im))
 
 pub column-told-spec : {M : Type 1} → statement M
-column-told-spec = tie.close (tie.spec (λ c κs. search needs) (λ c κs. search needs) returns (λ c. search needs) (λ c. search needs) (λ c κs. search needs) (λ c κs. search needs) returns-2)
+column-told-spec =
+    tie.close
+    (tie.spec
+    (λ c κs. search needs)
+    (λ c κs. search needs)
+    returns
+    (λ c. search needs)
+    (λ c. search needs)
+    (λ c κs. search needs)
+    (λ c κs. search needs)
+    returns-2)

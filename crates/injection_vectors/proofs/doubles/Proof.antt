@@ -24,7 +24,24 @@ unfolding stores
 loop-again c = let l = c .before .before .loop in (omega arith, rw (add-one, ← l .inv .1, c .double-at .ensures))
 
 returns : tie.Need-returns Inv-loop μ-loop
-returns c = let l = c .before .loop in let e : l .b ≡ c .before .before .before .args .n = omega arith in rw (← e) (l .inv .1)
+returns c =
+    let l = c .before .loop in
+    let e : l .b ≡ c .before .before .before .args .n = omega arith in
+    rw (← e) (l .inv .1)
 
 pub doubles-spec : {M : Type 1} → statement M
-doubles-spec = tie.close (tie.spec Inv-loop μ-loop loop-holds (λ c. omega arith) (λ c. omega arith) (λ c κs. omega arith) (λ c. omega arith) (λ c. omega arith) (λ c. omega arith) (λ c. omega arith) loop-again returns)
+doubles-spec =
+    tie.close
+    (tie.spec
+    Inv-loop
+    μ-loop
+    loop-holds
+    (λ c. omega arith)
+    (λ c. omega arith)
+    (λ c κs. omega arith)
+    (λ c. omega arith)
+    (λ c. omega arith)
+    (λ c. omega arith)
+    (λ c. omega arith)
+    loop-again
+    returns)

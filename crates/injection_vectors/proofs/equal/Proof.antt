@@ -41,4 +41,19 @@ returns-2 c =
     (λ e. ext-getD nan (s .args .t1) (s .args .t2) (x ∙ sym y) (λ j h. l .inv .1 j (omega arith)), λ h. refl)
 
 pub equal-spec : {M : Type 1} → statement M
-equal-spec = tie.close (tie.spec Inv-loop μ-loop loop-holds (λ c. omega arith) (λ c. omega arith) (λ c. omega arith) (λ c. omega arith) (λ c κs. omega arith) returns (λ c. omega arith) (λ c. omega arith) loop-again returns-2)
+equal-spec =
+    tie.close
+    (tie.spec
+    Inv-loop
+    μ-loop
+    loop-holds
+    (λ c. omega arith)
+    (λ c. omega arith)
+    (λ c. omega arith)
+    (λ c. omega arith)
+    (λ c κs. omega arith)
+    returns
+    (λ c. omega arith)
+    (λ c. omega arith)
+    loop-again
+    returns-2)

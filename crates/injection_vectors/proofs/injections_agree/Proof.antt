@@ -14,4 +14,18 @@ returns c =
     rw (← s .pre .1, ← c .before .before .before .doubles .ensures, ← c .before .before .doubles2 .ensures, ← c .before .ac-injections .ensures) (c .injections-told .ensures)
 
 pub injections-agree-spec : {M : Type 1} → statement M
-injections-agree-spec = tie.close (tie.spec (λ c. search needs) (λ c κs. search needs) (λ c. search needs) (λ c. search needs) (λ c. search needs) (λ c κs. search needs) ac-injections-requires (λ c. search needs) (λ c. search needs) (λ c. search needs) (λ c κs. search needs) returns)
+injections-agree-spec =
+    tie.close
+    (tie.spec
+    (λ c. search needs)
+    (λ c κs. search needs)
+    (λ c. search needs)
+    (λ c. search needs)
+    (λ c. search needs)
+    (λ c κs. search needs)
+    ac-injections-requires
+    (λ c. search needs)
+    (λ c. search needs)
+    (λ c. search needs)
+    (λ c κs. search needs)
+    returns)

@@ -31,4 +31,22 @@ returns-4 c =
     last-told (c .equal2 .ensures) (λ h. ap (λ (x : Injections). x .power .q) h ∙ sym q) (λ e. injections-parts _ _ _ _ _ v i p (e ∙ q))
 
 pub injections-told-spec : {M : Type 1} → statement M
-injections-told-spec = tie.close (tie.spec (λ c κs. search needs) returns (λ c. search needs) (λ c. search needs) (λ c κs. search needs) returns-2 (λ c. search needs) (λ c. search needs) (λ c κs. search needs) (λ c κs. search needs) returns-3 (λ c. search needs) (λ c. search needs) (λ c κs. search needs) (λ c κs. search needs) returns-4)
+injections-told-spec =
+    tie.close
+    (tie.spec
+    (λ c κs. search needs)
+    returns
+    (λ c. search needs)
+    (λ c. search needs)
+    (λ c κs. search needs)
+    returns-2
+    (λ c. search needs)
+    (λ c. search needs)
+    (λ c κs. search needs)
+    (λ c κs. search needs)
+    returns-3
+    (λ c. search needs)
+    (λ c. search needs)
+    (λ c κs. search needs)
+    (λ c κs. search needs)
+    returns-4)

@@ -8,4 +8,13 @@ returns : tie.Need-returns
 returns c = entries-told _ _ _ _ _ _ _ zeros (c .before .before .before .before .before .jacobian-at .ensures) (c .before .space-told .ensures)
 
 pub jacobian-agrees-spec : {M : Type 1} → statement M
-jacobian-agrees-spec = tie.close (tie.spec (λ c. search needs) (λ c κs. search needs) (λ c. search needs) (λ c. search needs) (λ c. search needs) (λ c κs. search needs) returns)
+jacobian-agrees-spec =
+    tie.close
+    (tie.spec
+    (λ c. search needs)
+    (λ c κs. search needs)
+    (λ c. search needs)
+    (λ c. search needs)
+    (λ c. search needs)
+    (λ c κs. search needs)
+    returns)

@@ -7,4 +7,17 @@ returns : tie.Need-returns
 returns c = rw (c .columns4 .ensures, c .before .columns3 .ensures, c .before .before .columns2 .ensures, c .before .before .before .columns .ensures)
 
 pub layout-at-spec : {M : Type 1} → statement M
-layout-at-spec = tie.close (tie.spec (λ c κs. search needs) (λ c. search needs) (λ c. search needs) (λ c κs. search needs) (λ c. search needs) (λ c. search needs) (λ c κs. search needs) (λ c. search needs) (λ c. search needs) (λ c κs. search needs) returns)
+layout-at-spec =
+    tie.close
+    (tie.spec
+    (λ c κs. search needs)
+    (λ c. search needs)
+    (λ c. search needs)
+    (λ c κs. search needs)
+    (λ c. search needs)
+    (λ c. search needs)
+    (λ c κs. search needs)
+    (λ c. search needs)
+    (λ c. search needs)
+    (λ c κs. search needs)
+    returns)

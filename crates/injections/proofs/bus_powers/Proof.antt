@@ -11,7 +11,8 @@ use Rattle.injections.proofs.bus_powers.Statement.{statement}
 use Rattle.injections.proofs.bus_powers.Tie as tie
 
 abbrev Inv-loop : tie.InvT-loop
-Inv-loop n v i p₀ q₀ b₀ p q b = (b ≤ n) × (p ≡ table b nought (λ k. powerAt (record { v = v; i = i }) k .re)) × (q ≡ table b nought (λ k. powerAt (record { v = v; i = i }) k .im))
+Inv-loop n v i p₀ q₀ b₀ p q b =
+    (b ≤ n) × (p ≡ table b nought (λ k. powerAt (record { v = v; i = i }) k .re)) × (q ≡ table b nought (λ k. powerAt (record { v = v; i = i }) k .im))
 
 abbrev μ-loop : tie.MeasureT-loop
 μ-loop n v i p₀ q₀ b₀ p q b = n - b
@@ -34,7 +35,35 @@ loop-again c =
 
 returns : tie.Need-returns Inv-loop μ-loop
 unfolding injectedOf
-returns c = let l = c .before .loop in let e : l .b ≡ c .before .before .before .before .args .n = omega arith in rw (← e, l .inv .1, l .inv .2)
+returns c =
+    let l = c .before .loop in
+    let e : l .b ≡ c .before .before .before .before .args .n = omega arith in
+    rw (← e, l .inv .1, l .inv .2)
 
 pub bus-powers-spec : {M : Type 1} → statement M
-bus-powers-spec = tie.close (tie.spec Inv-loop μ-loop loop-holds (λ c. search needs) (λ c. search needs) (λ c. search needs) (λ c. search needs) (λ c κs. search needs) (λ c κs. search needs) (λ c. search needs) (λ c. search needs) (λ c. search needs) (λ c. search needs) (λ c κs. search needs) (λ c κs. search needs) (λ c. search needs) (λ c. search needs) (λ c. search needs) (λ c. search needs) (λ c. search needs) (λ c. search needs) loop-again returns)
+bus-powers-spec =
+    tie.close
+    (tie.spec
+    Inv-loop
+    μ-loop
+    loop-holds
+    (λ c. search needs)
+    (λ c. search needs)
+    (λ c. search needs)
+    (λ c. search needs)
+    (λ c κs. search needs)
+    (λ c κs. search needs)
+    (λ c. search needs)
+    (λ c. search needs)
+    (λ c. search needs)
+    (λ c. search needs)
+    (λ c κs. search needs)
+    (λ c κs. search needs)
+    (λ c. search needs)
+    (λ c. search needs)
+    (λ c. search needs)
+    (λ c. search needs)
+    (λ c. search needs)
+    (λ c. search needs)
+    loop-again
+    returns)

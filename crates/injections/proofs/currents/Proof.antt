@@ -10,7 +10,8 @@ use Rattle.injections.proofs.currents.Statement.{statement}
 use Rattle.injections.proofs.currents.Tie as tie
 
 abbrev Inv-loop : tie.InvT-loop
-Inv-loop n y-row y-col y-re y-im v re₀ im₀ t₀ t-end re im t = (t ≤ t-end) × (t-end ≡ length y-row) × (re ≡ currentsTo t (ybus y-row y-col y-re y-im) v .re) × (im ≡ currentsTo t (ybus y-row y-col y-re y-im) v .im)
+Inv-loop n y-row y-col y-re y-im v re₀ im₀ t₀ t-end re im t =
+    (t ≤ t-end) × (t-end ≡ length y-row) × (re ≡ currentsTo t (ybus y-row y-col y-re y-im) v .re) × (im ≡ currentsTo t (ybus y-row y-col y-re y-im) v .im)
 
 abbrev μ-loop : tie.MeasureT-loop
 μ-loop n y-row y-col y-re y-im v re₀ im₀ t₀ t-end re im t = t-end - t
@@ -46,4 +47,34 @@ returns c =
     rw (l .inv .2, l .inv .3, e)
 
 pub currents-spec : {M : Type 1} → statement M
-currents-spec = tie.close (tie.spec Inv-loop μ-loop loop-holds bus-requires bus-requires-2 (λ c. omega arith) (λ c. omega arith) (λ c. omega arith) (λ c. omega arith) (λ c κs. omega arith) (λ c. omega arith) (λ c. omega arith) (λ c. omega arith) (λ c. omega arith) (λ c κs. omega arith) (λ c κs. omega arith) (λ c. omega arith) (λ c. omega arith) (λ c. omega arith) (λ c. omega arith) (λ c. omega arith) (λ c. omega arith) (λ c. omega arith) (λ c. omega arith) (λ c. omega arith) (λ c. omega arith) loop-again returns)
+currents-spec =
+    tie.close
+    (tie.spec
+    Inv-loop
+    μ-loop
+    loop-holds
+    bus-requires
+    bus-requires-2
+    (λ c. omega arith)
+    (λ c. omega arith)
+    (λ c. omega arith)
+    (λ c. omega arith)
+    (λ c κs. omega arith)
+    (λ c. omega arith)
+    (λ c. omega arith)
+    (λ c. omega arith)
+    (λ c. omega arith)
+    (λ c κs. omega arith)
+    (λ c κs. omega arith)
+    (λ c. omega arith)
+    (λ c. omega arith)
+    (λ c. omega arith)
+    (λ c. omega arith)
+    (λ c. omega arith)
+    (λ c. omega arith)
+    (λ c. omega arith)
+    (λ c. omega arith)
+    (λ c. omega arith)
+    (λ c. omega arith)
+    loop-again
+    returns)

@@ -26,7 +26,28 @@ loop-again c = let s = c .before .before in (omega arith, rw (add-one, ← s .lo
 
 returns : tie.Need-returns Inv-loop μ-loop
 unfolding voltagesOf
-returns c = let s = c .before in let e : s .loop .b ≡ s .before .args .n = omega arith in rw (← e, s .loop .inv .1, s .loop .inv .2)
+returns c =
+    let s = c .before in
+    let e : s .loop .b ≡ s .before .args .n = omega arith in
+    rw (← e, s .loop .inv .1, s .loop .inv .2)
 
 pub voltages-spec : {M : Type 1} → statement M
-voltages-spec = tie.close (tie.spec Inv-loop μ-loop loop-holds (λ c. search needs) (λ c. search needs) (λ c. search needs) (λ c. search needs) (λ c κs. search needs) (λ c. search needs) (λ c. search needs) (λ c. search needs) (λ c. search needs) (λ c. search needs) (λ c. search needs) loop-again returns)
+voltages-spec =
+    tie.close
+    (tie.spec
+    Inv-loop
+    μ-loop
+    loop-holds
+    (λ c. search needs)
+    (λ c. search needs)
+    (λ c. search needs)
+    (λ c. search needs)
+    (λ c κs. search needs)
+    (λ c. search needs)
+    (λ c. search needs)
+    (λ c. search needs)
+    (λ c. search needs)
+    (λ c. search needs)
+    (λ c. search needs)
+    loop-again
+    returns)

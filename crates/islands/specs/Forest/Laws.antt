@@ -42,7 +42,8 @@ module _ {rank root : ℕ → ℕ} (p : List ℕ) (w : Forest rank root p) where
         within = after p a v (w .size) l (λ i u. u < 32) (w .within b lb) (λ i h d. w .within i h);
         falls = after p a v (w .size) l (λ i u. (u ≡ i → ⊥) → rank u < rank i) (λ d. lower) (λ i h d. w .falls i h);
         along = after p a v (w .size) l (λ i u. root u ≡ root i) (w .along b lb ∙ w .along a l) (λ i h d. w .along i h);
-        top = after p a v (w .size) l (λ i u. u ≡ i → root i ≡ i) (λ e. absurd (let q = ap rank e in let z : ⊥ = omega arith in z)) (λ i h d. w .top i h);
+        top =
+            after p a v (w .size) l (λ i u. u ≡ i → root i ≡ i) (λ e. absurd (let q = ap rank e in let z : ⊥ = omega arith in z)) (λ i h d. w .top i h);
         inside = w .inside;
         stands = λ i h. getD-set-other p a (root i) v 0 (λ e. n (rw e at (w .stands i h))) ∙ w .stands i h;
       }
@@ -99,7 +100,8 @@ module _ {rank root : ℕ → ℕ} (p : List ℕ) (w : Forest rank root p) (a b 
       }
     where
       go : (Q : ℕ → Type 0) → Q (root a) → (i : ℕ) → ((root i ≡ root b → ⊥) → Q (root i)) → Q (joinedRoot root a b i)
-      go Q moves i stays = ⊎-elim (λ e. rw (moved-met (root a) (root b) (root i) e) moves) (λ d. rw (moved-other (root a) (root b) (root i) d) (stays d)) (same-or-not (root i) (root b))
+      go Q moves i stays =
+          ⊎-elim (λ e. rw (moved-met (root a) (root b) (root i) e) moves) (λ d. rw (moved-other (root a) (root b) (root i) d) (stays d)) (same-or-not (root i) (root b))
 
 -- ---- how far a bus is from its root
 

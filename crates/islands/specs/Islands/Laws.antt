@@ -232,7 +232,8 @@ module _ (from to : List ℕ) where
 
   -- one label to an island
   pub labels-same : (i j : ℕ) → (labelOf from to i ≡ labelOf from to j) ↔ Joined from to i j
-  labels-same i j = (λ e. group-linked from to (length from) i j (label-apart (islandOf from to) i j e), λ d. label-same (islandOf from to) i j (linked-group from to d))
+  labels-same i j =
+      (λ e. group-linked from to (length from) i j (label-apart (islandOf from to) i j e), λ d. label-same (islandOf from to) i j (linked-group from to d))
 
   -- a label counts the islands whose first bus stands before that of its own
   pub labels-count : (i f : ℕ) → Joined from to i f → First from to f → Firsts from to f (labelOf from to i)

@@ -21,10 +21,31 @@ loop-holds c = search needs
 
 loop-again : tie.Need-loop-again Inv-loop μ-loop
 unfolding stores angleCount
-loop-again c = (search needs, rw (add-one, ← c .before .before .before .before .loop .inv .1, ← c .before .before .before .before .loop .inv .2, ← c .before .angle-col .ensures), rw (add-one, ← c .before .before .before .before .loop .inv .2) (c .next-angle .ensures .0), omega (arith, c .next-angle .ensures .1))
+loop-again c = (
+  search needs,
+  rw (add-one, ← c .before .before .before .before .loop .inv .1, ← c .before .before .before .before .loop .inv .2, ← c .before .angle-col .ensures),
+  rw (add-one, ← c .before .before .before .before .loop .inv .2) (c .next-angle .ensures .0),
+  omega (arith, c .next-angle .ensures .1),
+)
 
 returns : tie.Need-returns Inv-loop μ-loop
-returns c = let e : c .before .loop .b ≡ c .before .before .args .n = omega arith in rw (← e) (c .before .loop .inv .1, c .before .loop .inv .2, c .before .loop .inv .3)
+returns c =
+    let e : c .before .loop .b ≡ c .before .before .args .n = omega arith in
+    rw (← e) (c .before .loop .inv .1, c .before .loop .inv .2, c .before .loop .inv .3)
 
 pub angle-columns-spec : {M : Type 1} → statement M
-angle-columns-spec = tie.close (tie.spec Inv-loop μ-loop loop-holds (λ c. search needs) (λ c κs. search needs) (λ c. search needs) (λ c. search needs) (λ c κs. search needs) (λ c. search needs) (λ c. search needs) loop-again returns)
+angle-columns-spec =
+    tie.close
+    (tie.spec
+    Inv-loop
+    μ-loop
+    loop-holds
+    (λ c. search needs)
+    (λ c κs. search needs)
+    (λ c. search needs)
+    (λ c. search needs)
+    (λ c κs. search needs)
+    (λ c. search needs)
+    (λ c. search needs)
+    loop-again
+    returns)

@@ -24,10 +24,30 @@ array-set-from-kinds : tie.Need-array-set-from-kinds Inv-loop μ-loop
 array-set-from-kinds c = let s = c .before .before .before .before .before .before in omega (arith, s .pre .2 (c .before .before .loop .i) (omega arith))
 
 loop-again : tie.Need-loop-again Inv-loop μ-loop
-loop-again c = let s = c .before .before .before .before .before .before in let l = c .before .before .loop in (omega arith, l .inv .1, rw (l .inv .2) (kinds-row (s .args .n) (l .i) (s .args .kind .now) (s .args .slacks .now) (s .pre .2 (l .i) (omega arith)) (s .pre .0)))
+loop-again c =
+    let s = c .before .before .before .before .before .before in
+    let l = c .before .before .loop in
+    (omega arith, l .inv .1, rw (l .inv .2) (kinds-row (s .args .n) (l .i) (s .args .kind .now) (s .args .slacks .now) (s .pre .2 (l .i) (omega arith)) (s .pre .0)))
 
 returns : tie.Need-returns Inv-loop μ-loop
-returns c = let l = c .before .loop in let a = c .before .before .before .before .before .args in let e : l .i ≡ length (a .slacks .now) = omega arith in l .inv .2 ∙ rw e (kinds-end (a .n) (a .kind .now) (a .slacks .now))
+returns c =
+    let l = c .before .loop in
+    let a = c .before .before .before .before .before .args in
+    let e : l .i ≡ length (a .slacks .now) = omega arith in
+    l .inv .2 ∙ rw e (kinds-end (a .n) (a .kind .now) (a .slacks .now))
 
 pub default-kinds-spec : {M : Type 1} → statement M
-default-kinds-spec = tie.close (tie.spec Inv-loop μ-loop (λ c κs. search needs) loop-holds (λ c. search needs) (λ c. search needs) array-set-from-kinds (λ c. search needs) (λ c. search needs) loop-again returns)
+default-kinds-spec =
+    tie.close
+    (tie.spec
+    Inv-loop
+    μ-loop
+    (λ c κs. search needs)
+    loop-holds
+    (λ c. search needs)
+    (λ c. search needs)
+    array-set-from-kinds
+    (λ c. search needs)
+    (λ c. search needs)
+    loop-again
+    returns)

@@ -80,7 +80,10 @@ module _ (kinds : List BusKind) where
     magnitudes-from = refl
 
     pub magnitudes-grow : (k : ℕ) → magnitudeCount k kinds first ≤ first + k
-    magnitudes-grow k = let a = growth magnitudes loose magnitude-turn k in let e = magnitudes-from in omega arith
+    magnitudes-grow k =
+        let a = growth magnitudes loose magnitude-turn k in
+        let e = magnitudes-from in
+        omega arith
 
   pub angles-from : angleCount 0 kinds ≡ 0
   unfolding angleCount
@@ -101,7 +104,8 @@ unfolding magnitudeCount
 shifted zero kinds first = omega arith
 shifted (suc k) kinds first = go (kindOf kinds k) (shifted k kinds first)
   where
-    go : (q : BusKind) → magnitudeCount k kinds first ≡ first + magnitudeCount k kinds 0 → nextMagnitude q (magnitudeCount k kinds first) ≡ first + nextMagnitude q (magnitudeCount k kinds 0)
+    go : (q : BusKind) → magnitudeCount k kinds first ≡ first + magnitudeCount k kinds 0
+        → nextMagnitude q (magnitudeCount k kinds first) ≡ first + nextMagnitude q (magnitudeCount k kinds 0)
     go Slack e = e
     go Pv e = e
     go Pq e = omega arith
@@ -111,7 +115,11 @@ pub dim-counts : (n : ℕ) (kinds : List BusKind) → layoutOf n kinds .dim ≡ 
 dim-counts n kinds = dim-is n kinds ∙ shifted n kinds (angleCount n kinds)
 
 pub dim-most : (n : ℕ) (kinds : List BusKind) → n ≤ 32 → layoutOf n kinds .dim ≤ 64
-dim-most n kinds h = let d = dim-is n kinds in let a = angles-grow kinds n in let m = magnitudes-grow kinds (angleCount n kinds) n in omega arith
+dim-most n kinds h =
+    let d = dim-is n kinds in
+    let a = angles-grow kinds n in
+    let m = magnitudes-grow kinds (angleCount n kinds) n in
+    omega arith
 
 -- ---- each column exactly once
 
@@ -154,7 +162,8 @@ module _ (n : ℕ) (kinds : List BusKind) (few : n ≤ 32) where
       omega arith
 
   pub magnitude-below : (c b : ℕ) → MagnitudeOf c b → c < layoutOf n kinds .dim
-  magnitude-below c b w = rw (magnitude-number c b w, dim-is n kinds) (strictly (magnitudes kinds first) (loose kinds) (magnitude-turn kinds first) b n (w .1) (w .0))
+  magnitude-below c b w =
+      rw (magnitude-number c b w, dim-is n kinds) (strictly (magnitudes kinds first) (loose kinds) (magnitude-turn kinds first) b n (w .1) (w .0))
 
   -- no column twice
   pub angle-once : (c b d : ℕ) → AngleOf c b → AngleOf c d → b ≡ d
@@ -194,9 +203,13 @@ kind-back n kinds b p h = rw (va-at n kinds b p h, vm-at n kinds b p h) (go (kin
     small e = let a = angles-grow kinds b in omega arith
 
     below : magnitudeCount b kinds (angleCount n kinds) ≡ none → ⊥
-    below e = let a = angles-grow kinds n in let m = magnitudes-grow kinds (angleCount n kinds) b in omega arith
+    below e =
+        let a = angles-grow kinds n in
+        let m = magnitudes-grow kinds (angleCount n kinds) b in
+        omega arith
 
-    go : (k : BusKind) → cond (eqb (angleCol k (angleCount b kinds)) none) Slack (cond (eqb (magnitudeCol k (magnitudeCount b kinds (angleCount n kinds))) none) Pv Pq) ≡ k
+    go : (k : BusKind)
+        → cond (eqb (angleCol k (angleCount b kinds)) none) Slack (cond (eqb (magnitudeCol k (magnitudeCount b kinds (angleCount n kinds))) none) Pv Pq) ≡ k
     go Slack = refl
     go Pv = rw (ne-eqb _ none small)
     go Pq = rw (ne-eqb _ none small, ne-eqb _ none below)

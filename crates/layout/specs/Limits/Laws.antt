@@ -66,7 +66,8 @@ unfolding limitsOf
 qmax-at buses qmin qmax b h = table-at 32 nought (sumAt (length buses) buses qmax) b nan h (le-refl 32)
 
 -- demand 3 at this level: values at other buses' generators don't matter to a bus
-pub sum-unread : (k : ℕ) (buses : List ℕ) (q p : List Float) (b : ℕ) → ((g : ℕ) → g < k → (getD buses g 0 ≡ b → ⊥) ⊎ (getD q g nan ≡ getD p g nan)) → sumAt k buses q b ≡ sumAt k buses p b
+pub sum-unread : (k : ℕ) (buses : List ℕ) (q p : List Float) (b : ℕ) → ((g : ℕ) → g < k → (getD buses g 0 ≡ b → ⊥) ⊎ (getD q g nan ≡ getD p g nan))
+    → sumAt k buses q b ≡ sumAt k buses p b
 unfolding sumAt
 sum-unread zero buses q p b h = refl
 sum-unread (suc k) buses q p b h = go (h k (omega arith)) (sum-unread k buses q p b (λ g l. h g (omega arith)))

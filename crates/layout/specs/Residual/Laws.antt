@@ -47,7 +47,8 @@ pub record AlikeFor (n : ℕ) (kinds : List BusKind) (w v : Powers) : Type 0 whe
   pub reactive : (b : ℕ) → b < n → NoReactive (kindOf kinds b) ⊎ ((getD (w .qg) b nan ≡ getD (v .qg) b nan) × (getD (w .qd) b nan ≡ getD (v .qd) b nan))
 
 -- the residual does not change when pd, qd, pg, qg change at slack buses, nor qg or qd where the reactive row is missing
-pub residual-unread : (n : ℕ) (kinds : List BusKind) (w v : Powers) → n ≤ 32 → AlikeFor n kinds w v → residualOf (layoutOf n kinds) w ≡ residualOf (layoutOf n kinds) v
+pub residual-unread : (n : ℕ) (kinds : List BusKind) (w v : Powers) → n ≤ 32 → AlikeFor n kinds w v
+    → residualOf (layoutOf n kinds) w ≡ residualOf (layoutOf n kinds) v
 unfolding layoutOf
 residual-unread n kinds w v few a = unread n (layoutOf n kinds) w v p-row q-row
   where
@@ -61,13 +62,15 @@ residual-unread n kinds w v few a = unread n (layoutOf n kinds) w v p-row q-row
     p-row : (b : ℕ) → b < n → (getD (layoutOf n kinds .«p_of») b 0 ≡ none) ⊎ (missingP w b ≡ missingP v b)
     p-row b h = go (a .active b h)
       where
-        go : NoActive (kindOf kinds b) ⊎ ((getD (w .pg) b nan ≡ getD (v .pg) b nan) × (getD (w .pd) b nan ≡ getD (v .pd) b nan)) → (getD (layoutOf n kinds .«p_of») b 0 ≡ none) ⊎ (missingP w b ≡ missingP v b)
+        go : NoActive (kindOf kinds b) ⊎ ((getD (w .pg) b nan ≡ getD (v .pg) b nan) × (getD (w .pd) b nan ≡ getD (v .pd) b nan))
+            → (getD (layoutOf n kinds .«p_of») b 0 ≡ none) ⊎ (missingP w b ≡ missingP v b)
         go (inl e) = inl (va-at n kinds b h few ∙ angle-none (kindOf kinds b) (angleCount b kinds) e)
         go (inr e) = inr (rw (e .0, e .1, a .calc-p))
 
     q-row : (b : ℕ) → b < n → (getD (layoutOf n kinds .«q_of») b 0 ≡ none) ⊎ (missingQ w b ≡ missingQ v b)
     q-row b h = go (a .reactive b h)
       where
-        go : NoReactive (kindOf kinds b) ⊎ ((getD (w .qg) b nan ≡ getD (v .qg) b nan) × (getD (w .qd) b nan ≡ getD (v .qd) b nan)) → (getD (layoutOf n kinds .«q_of») b 0 ≡ none) ⊎ (missingQ w b ≡ missingQ v b)
+        go : NoReactive (kindOf kinds b) ⊎ ((getD (w .qg) b nan ≡ getD (v .qg) b nan) × (getD (w .qd) b nan ≡ getD (v .qd) b nan))
+            → (getD (layoutOf n kinds .«q_of») b 0 ≡ none) ⊎ (missingQ w b ≡ missingQ v b)
         go (inl e) = inl (vm-at n kinds b h few ∙ magnitude-none (kindOf kinds b) (magnitudeCount b kinds (angleCount n kinds)) e)
         go (inr e) = inr (rw (e .0, e .1, a .calc-q))

@@ -16,4 +16,13 @@ returns c =
     (then (then (then (a .put .ensures) (b .put-count .ensures .0)) (d .put-gap .ensures .0)) (e .put-byte .ensures), omega (arith, a .put .ensures .ends, b .put-count .ensures .1, d .put-gap .ensures .1, e .put-byte .ensures .ends))
 
 pub put-ok-spec : {M : Type 1} → statement M
-put-ok-spec = tie.close (tie.spec (λ c. search needs) (λ c κs. search needs) (λ c κs. search needs) (λ c κs. search needs) (λ c κs. search needs) (λ c. search needs) returns)
+put-ok-spec =
+    tie.close
+    (tie.spec
+    (λ c. search needs)
+    (λ c κs. search needs)
+    (λ c κs. search needs)
+    (λ c κs. search needs)
+    (λ c κs. search needs)
+    (λ c. search needs)
+    returns)

@@ -46,4 +46,17 @@ returns-2 c =
     (same-bytes (h .hex .ensures .1 .1 ∙ ap (λ (k : ℕ). digits 16 k (toBits binary64 (s .args .x))) e ∙ real-is _ (number _ (i .if1 .left))) (p .put2 .ensures), omega (arith, p .put2 .ensures .ends))
 
 pub put-real-spec : {M : Type 1} → statement M
-put-real-spec = tie.close (tie.spec (λ c. search needs) (λ c κs. search needs) (λ c. search needs) returns float-to-bits-hex (λ c κs. search needs) (λ c. search needs) (λ c. search needs) put-requires-2 (λ c. search needs) returns-2)
+put-real-spec =
+    tie.close
+    (tie.spec
+    (λ c. search needs)
+    (λ c κs. search needs)
+    (λ c. search needs)
+    returns
+    float-to-bits-hex
+    (λ c κs. search needs)
+    (λ c. search needs)
+    (λ c. search needs)
+    put-requires-2
+    (λ c. search needs)
+    returns-2)

@@ -99,7 +99,8 @@ module _ (first : ℕ → ℕ) where
     unfolding reduce
     reduce-singular h = rw (← is, eq-eqb p dim h)
 
-    pub reduce-on : p ≢ dim → reduce first (suc n) col dim w ≡ reduce first n (col + 1) dim (subLower first (dim - (col + 1)) (col + 1) col dim (swapRows dim 0 col p w))
+    pub reduce-on : p ≢ dim
+        → reduce first (suc n) col dim w ≡ reduce first n (col + 1) dim (subLower first (dim - (col + 1)) (col + 1) col dim (swapRows dim 0 col p w))
     unfolding reduce
     reduce-on h = rw (← is, ne-eqb p dim h)
 
@@ -107,7 +108,8 @@ pub known-end : (c r : ℕ) (acc : Float) (w : List Float) → lessKnown 0 c r a
 unfolding lessKnown
 known-end c r acc w = refl
 
-pub known-turn : (n c r : ℕ) (acc : Float) (w : List Float) → lessKnown (suc n) c r acc w ≡ lessKnown n (c + 1) r (sub binary64 acc (mul binary64 (at w (r * 64 + c)) (at w (4096 + c)))) w
+pub known-turn : (n c r : ℕ) (acc : Float) (w : List Float)
+    → lessKnown (suc n) c r acc w ≡ lessKnown n (c + 1) r (sub binary64 acc (mul binary64 (at w (r * 64 + c)) (at w (4096 + c)))) w
 unfolding lessKnown
 known-turn n c r acc w = refl
 
@@ -219,7 +221,8 @@ sub-kept (suc n) c p r dim f w h hr = kept-on (kept-entry dim r c _ w hr (omega 
 lower-kept : (n r p dim : ℕ) (w : List Float) → r + n ≤ dim → p < dim → Kept dim w (subLower afterPivot n r p dim w)
 unfolding subLower
 lower-kept zero r p dim w h hp = kept-all dim w
-lower-kept (suc n) r p dim w h hp = kept-on (sub-kept (dim - (p + 1)) (p + 1) p r dim _ w (omega arith) (omega arith)) (lower-kept n (r + 1) p dim _ (omega arith) hp)
+lower-kept (suc n) r p dim w h hp =
+    kept-on (sub-kept (dim - (p + 1)) (p + 1) p r dim _ w (omega arith) (omega arith)) (lower-kept n (r + 1) p dim _ (omega arith) hp)
 
 reduce-kept : (n col dim : ℕ) (w : List Float) → col + n ≤ dim → Kept dim w (spaceOf (reduce afterPivot n col dim w))
 reduce-kept zero col dim w h = rw reduce-end (kept-all dim w)

@@ -26,7 +26,8 @@ add-result-2 c = omega (arith, row-ends _ _ (c .if3 .taken), square _ (c .before
 
 returns-3 : tie.Need-returns-3
 unfolding slotOf
-returns-3 c = (rw (lt-ltb _ _ (c .before .before .if1 .left), ne-eqb _ _ (c .before .if2 .left), lt-ltb _ _ (c .if3 .taken)), omega (arith, row-ends _ _ (c .if3 .taken)))
+returns-3 c =
+    (rw (lt-ltb _ _ (c .before .before .if1 .left), ne-eqb _ _ (c .before .if2 .left), lt-ltb _ _ (c .if3 .taken)), omega (arith, row-ends _ _ (c .if3 .taken)))
 
 returns-4 : tie.Need-returns-4
 unfolding slotOf

@@ -4,20 +4,20 @@ use Prim.Native.Nat.{ℕ, _-_, _^_}
 use lib.Bits.{bitXor}
 use lib.Ieee.{Float, binary64, ofBits, ofInt, sub, mul, div}
 use borrow.Author.Needs.{needs}
-use Rattle.real.specs.Literals.{double}
+use Rattle.real.specs.Literals.{lit, double}
 use Rattle.mix.specs.Noise.{times, folded, mixOf}
 use Rattle.mix.proofs.mix.Statement.{statement}
 use Rattle.mix.proofs.mix.Tie as tie
 
-one : ofBits binary64 0x3ff0_0000_0000_0000 ≡ double 1
+one : lit 0x3ff0_0000_0000_0000 ≡ double 1
 unfolding ofBits ofInt
 one = refl
 
-two : ofBits binary64 0x4000_0000_0000_0000 ≡ double 2
+two : lit 0x4000_0000_0000_0000 ≡ double 2
 unfolding ofBits ofInt
 two = refl
 
-all : ofBits binary64 0x43f0_0000_0000_0000 ≡ double (2 ^ 64 - 1)
+all : lit 0x43f0_0000_0000_0000 ≡ double (2 ^ 64 - 1)
 unfolding ofBits ofInt
 all = refl
 
@@ -26,21 +26,9 @@ assembled : (a b m n y : ℕ) (v : Float)
     → n ≡ times b 0xD1B5_4A32_D192_ED03
     → y ≡ times (folded (bitXor m n)) 0xFF51_AFD7_ED55_8CCD
     → v ≡ double (folded y)
-    → sub binary64 (mul binary64 (div binary64 v (ofBits binary64 0x43f0_0000_0000_0000)) (ofBits binary64 0x4000_0000_0000_0000)) (ofBits binary64 0x3ff0_0000_0000_0000) ≡ mixOf a b
+    → sub binary64 (mul binary64 (div binary64 v (lit 0x43f0_0000_0000_0000)) (lit 0x4000_0000_0000_0000)) (lit 0x3ff0_0000_0000_0000) ≡ mixOf a b
 unfolding mixOf
 assembled a b m n y v em en ey ev = rw (ev, ey, em, en, all, two, one)
-
-wrapping-mul-requires : tie.Need-wrapping-mul-requires
-wrapping-mul-requires c κs = search needs
-
-wrapping-mul-requires-2 : tie.Need-wrapping-mul-requires-2
-wrapping-mul-requires-2 c κs = search needs
-
-wrapping-mul-requires-3 : tie.Need-wrapping-mul-requires-3
-wrapping-mul-requires-3 c κs = search needs
-
-nearest-u64-to-f64-requires : tie.Need-nearest-u64-to-f64-requires
-nearest-u64-to-f64-requires c κs = search needs
 
 returns : tie.Need-returns
 returns c =
@@ -52,4 +40,4 @@ returns c =
     (m .wrapping-mul .ensures) (n .wrapping-mul2 .ensures) (y .wrapping-mul3 .ensures) (c .nearest-u64-to-f64 .ensures)
 
 pub mix-spec : {M : Type 1} → statement M
-mix-spec = tie.close (tie.spec wrapping-mul-requires wrapping-mul-requires-2 wrapping-mul-requires-3 nearest-u64-to-f64-requires returns)
+mix-spec = tie.close (tie.spec (λ c κs. search needs) (λ c κs. search needs) (λ c κs. search needs) (λ c κs. search needs) returns)

@@ -24,7 +24,21 @@ unfolding anyBelow
 loop-again c = (omega arith, rw (add-one, ← c .before .before .loop .inv .1) (c .or .ensures))
 
 returns : tie.Need-returns Inv-loop μ-loop
-returns c = let l = c .before .loop in let e : l .b ≡ c .before .before .args .n = omega arith in rw (← e) (l .inv .1)
+returns c =
+    let l = c .before .loop in
+    let e : l .b ≡ c .before .before .args .n = omega arith in
+    rw (← e) (l .inv .1)
 
 pub any-generator-spec : {M : Type 1} → statement M
-any-generator-spec = tie.close (tie.spec Inv-loop μ-loop loop-holds (λ c. search needs) (λ c κs. search needs) (λ c. search needs) (λ c. search needs) loop-again returns)
+any-generator-spec =
+    tie.close
+    (tie.spec
+    Inv-loop
+    μ-loop
+    loop-holds
+    (λ c. search needs)
+    (λ c κs. search needs)
+    (λ c. search needs)
+    (λ c. search needs)
+    loop-again
+    returns)

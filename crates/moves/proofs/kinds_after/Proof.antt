@@ -28,7 +28,23 @@ loop-again c = (omega arith, rw (add-one, ← c .before .before .before .before 
 
 returns : tie.Need-returns Inv-loop μ-loop
 unfolding kindsAfter
-returns c = let l = c .before .loop in let e : l .b ≡ c .before .before .args .n = omega arith in rw (← e) (l .inv .1)
+returns c =
+    let l = c .before .loop in
+    let e : l .b ≡ c .before .before .args .n = omega arith in
+    rw (← e) (l .inv .1)
 
 pub kinds-after-spec : {M : Type 1} → statement M
-kinds-after-spec = tie.close (tie.spec Inv-loop μ-loop loop-holds (λ c. search needs) (λ c. search needs) (λ c κs. search needs) (λ c. search needs) (λ c. search needs) (λ c. search needs) loop-again returns)
+kinds-after-spec =
+    tie.close
+    (tie.spec
+    Inv-loop
+    μ-loop
+    loop-holds
+    (λ c. search needs)
+    (λ c. search needs)
+    (λ c κs. search needs)
+    (λ c. search needs)
+    (λ c. search needs)
+    (λ c. search needs)
+    loop-again
+    returns)

@@ -22,11 +22,43 @@ loop-holds c = search needs
 
 loop-again : tie.Need-loop-again Inv-loop μ-loop
 unfolding stores
-loop-again c = let l = c .before .before .before .before .before .before .before .before .before .loop in (omega arith, rw (add-one, ← l .inv .1, ← c .move-of .ensures))
+loop-again c =
+    let l = c .before .before .before .before .before .before .before .before .before .loop in
+    (omega arith, rw (add-one, ← l .inv .1, ← c .move-of .ensures))
 
 returns : tie.Need-returns Inv-loop μ-loop
 unfolding movesOf
-returns c = let l = c .before .loop in let e : l .b ≡ c .before .before .before .args .n = omega arith in rw (← e) (l .inv .1)
+returns c =
+    let l = c .before .loop in
+    let e : l .b ≡ c .before .before .before .args .n = omega arith in
+    rw (← e) (l .inv .1)
 
 pub moves-spec : {M : Type 1} → statement M
-moves-spec = tie.close (tie.spec Inv-loop μ-loop loop-holds (λ c. search needs) (λ c. search needs) (λ c. search needs) (λ c. search needs) (λ c. search needs) (λ c. search needs) (λ c. search needs) (λ c. search needs) (λ c. search needs) (λ c. search needs) (λ c. search needs) (λ c. search needs) (λ c. search needs) (λ c. search needs) (λ c. search needs) (λ c. search needs) (λ c κs. search needs) (λ c. search needs) (λ c. search needs) (λ c. search needs) loop-again returns)
+moves-spec =
+    tie.close
+    (tie.spec
+    Inv-loop
+    μ-loop
+    loop-holds
+    (λ c. search needs)
+    (λ c. search needs)
+    (λ c. search needs)
+    (λ c. search needs)
+    (λ c. search needs)
+    (λ c. search needs)
+    (λ c. search needs)
+    (λ c. search needs)
+    (λ c. search needs)
+    (λ c. search needs)
+    (λ c. search needs)
+    (λ c. search needs)
+    (λ c. search needs)
+    (λ c. search needs)
+    (λ c. search needs)
+    (λ c. search needs)
+    (λ c κs. search needs)
+    (λ c. search needs)
+    (λ c. search needs)
+    (λ c. search needs)
+    loop-again
+    returns)

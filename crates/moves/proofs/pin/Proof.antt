@@ -25,7 +25,27 @@ loop-again c = let l = c .before .before .before .before .loop in (omega arith, 
 
 returns : tie.Need-returns Inv-loop μ-loop
 unfolding pinned
-returns c = let l = c .before .loop in let e : l .b ≡ c .before .before .args .n = omega arith in rw (← e) (l .inv .1)
+returns c =
+    let l = c .before .loop in
+    let e : l .b ≡ c .before .before .args .n = omega arith in
+    rw (← e) (l .inv .1)
 
 pub pin-spec : {M : Type 1} → statement M
-pin-spec = tie.close (tie.spec Inv-loop μ-loop loop-holds (λ c. search needs) (λ c. search needs) (λ c. search needs) (λ c. search needs) (λ c. search needs) (λ c κs. search needs) (λ c. search needs) (λ c. search needs) (λ c. search needs) (λ c. search needs) loop-again returns)
+pin-spec =
+    tie.close
+    (tie.spec
+    Inv-loop
+    μ-loop
+    loop-holds
+    (λ c. search needs)
+    (λ c. search needs)
+    (λ c. search needs)
+    (λ c. search needs)
+    (λ c. search needs)
+    (λ c κs. search needs)
+    (λ c. search needs)
+    (λ c. search needs)
+    (λ c. search needs)
+    (λ c. search needs)
+    loop-again
+    returns)

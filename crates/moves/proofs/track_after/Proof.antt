@@ -21,11 +21,45 @@ loop-holds c = search needs
 
 loop-again : tie.Need-loop-again Inv-loop μ-loop
 unfolding stores
-loop-again c = let v = c .before .before in let s = v .before .before in let l = s .before .before .before .before .before .before .loop in (omega arith, rw (add-one, l .inv .1, s .sched-after .ensures, v .converted-after .ensures, c .reverted-after .ensures))
+loop-again c =
+    let v = c .before .before in
+    let s = v .before .before in
+    let l = s .before .before .before .before .before .before .loop in
+    (omega arith, rw (add-one, l .inv .1, s .sched-after .ensures, v .converted-after .ensures, c .reverted-after .ensures))
 
 returns : tie.Need-returns Inv-loop μ-loop
 unfolding trackAfter
-returns c = let l = c .before .loop in let e : l .b ≡ c .before .before .args .n = omega arith in rw (← e) (l .inv .1)
+returns c =
+    let l = c .before .loop in
+    let e : l .b ≡ c .before .before .args .n = omega arith in
+    rw (← e) (l .inv .1)
 
 pub track-after-spec : {M : Type 1} → statement M
-track-after-spec = tie.close (tie.spec Inv-loop μ-loop loop-holds (λ c. search needs) (λ c. search needs) (λ c. search needs) (λ c. search needs) (λ c. search needs) (λ c. search needs) (λ c. search needs) (λ c. search needs) (λ c. search needs) (λ c κs. search needs) (λ c. search needs) (λ c. search needs) (λ c. search needs) (λ c κs. search needs) (λ c. search needs) (λ c. search needs) (λ c κs. search needs) (λ c. search needs) (λ c. search needs) (λ c. search needs) loop-again returns)
+track-after-spec =
+    tie.close
+    (tie.spec
+    Inv-loop
+    μ-loop
+    loop-holds
+    (λ c. search needs)
+    (λ c. search needs)
+    (λ c. search needs)
+    (λ c. search needs)
+    (λ c. search needs)
+    (λ c. search needs)
+    (λ c. search needs)
+    (λ c. search needs)
+    (λ c. search needs)
+    (λ c κs. search needs)
+    (λ c. search needs)
+    (λ c. search needs)
+    (λ c. search needs)
+    (λ c κs. search needs)
+    (λ c. search needs)
+    (λ c. search needs)
+    (λ c κs. search needs)
+    (λ c. search needs)
+    (λ c. search needs)
+    (λ c. search needs)
+    loop-again
+    returns)

@@ -103,7 +103,8 @@ module _ (has r : Bool) (q lo lo' hi hi' v hold : Float) where
     abbrev Next : BusKind → BusKind → ℕ → Float → Float → Move → Type 0
     Next = After lo lo' hi hi' qg qg'
 
-    pub standing-on : {d k : BusKind} {c : ℕ} {x y : Float} → Standing d k c x y → NoLimits d ⊎ ((lo ≡ lo') × (hi ≡ hi')) → Next d k c x y (moveOf k has q lo hi c r v hold)
+    pub standing-on : {d k : BusKind} {c : ℕ} {x y : Float} → Standing d k c x y → NoLimits d ⊎ ((lo ≡ lo') × (hi ≡ hi'))
+        → Next d k c x y (moveOf k has q lo hi c r v hold)
     unfolding moveOf movePv movePq
     standing-on {x = x} {y = y} (slack {c = c}) el = none (Next Slack Slack c x y) has true slack
     standing-on {c = c} {x = x} {y = y} held el =

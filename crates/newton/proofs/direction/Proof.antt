@@ -5,7 +5,12 @@ use Rattle.newton.proofs.direction.Statement.{statement}
 use Rattle.newton.proofs.direction.Tie as tie
 
 returns : tie.Need-returns
-returns c = let s = c .before .before in let l = s .before .before .before .before in let j = l .before .before .before .before in let k = j .before .before .before .before in direction-is _ _ _ _ _ _ _ _ _ (k .clear .ensures) (j .ac-jacobian .ensures) (l .load-sides .ensures) (s .solve .ensures)
+returns c =
+    let s = c .before .before in
+    let l = s .before .before .before .before in
+    let j = l .before .before .before .before in
+    let k = j .before .before .before .before in
+    direction-is _ _ _ _ _ _ _ _ _ (k .clear .ensures) (j .ac-jacobian .ensures) (l .load-sides .ensures) (s .solve .ensures)
 
 pub direction-spec : {M : Type 1} → statement M
 direction-spec = tie.close (tie.spec (λ c κs. search needs) (λ c κs. search needs) (λ c κs. search needs) (λ c κs. search needs) (λ c. search needs) returns)

@@ -11,7 +11,9 @@ use Rattle.newton.proofs.search.Statement.{statement}
 use Rattle.newton.proofs.search.Tie as tie
 
 abbrev Inv-loop : tie.InvT-loop
-Inv-loop y-row y-col y-re y-im layout pd qd pg qg p m w alpha₀ k₀ alpha k = (k ≤ 12) × (triesFrom (12 - k) (measuredOf (problem (ybus y-row y-col y-re y-im) layout pd qd pg qg)) layout p m w alpha ≡ triesFrom 12 (measuredOf (problem (ybus y-row y-col y-re y-im) layout pd qd pg qg)) layout p m w one)
+Inv-loop y-row y-col y-re y-im layout pd qd pg qg p m w alpha₀ k₀ alpha k =
+    (k ≤ 12)
+    × (triesFrom (12 - k) (measuredOf (problem (ybus y-row y-col y-re y-im) layout pd qd pg qg)) layout p m w alpha ≡ triesFrom 12 (measuredOf (problem (ybus y-row y-col y-re y-im) layout pd qd pg qg)) layout p m w one)
 
 abbrev μ-loop : tie.MeasureT-loop
 μ-loop y-row y-col y-re y-im layout pd qd pg qg p m w alpha₀ k₀ alpha k = 12 - k
@@ -20,10 +22,14 @@ loop-holds : tie.Need-loop-holds Inv-loop μ-loop
 loop-holds c = search needs
 
 returns : tie.Need-returns Inv-loop μ-loop
-returns c = sym (tries-hit _ _ _ _ _ _ _ _ (c .before .attempt .ensures) (c .if1 .taken)) ∙ (rw (fuel 12 _ (c .before .before .loop-test .taken)) at (c .before .before .before .loop .inv .1))
+returns c =
+    sym (tries-hit _ _ _ _ _ _ _ _ (c .before .attempt .ensures) (c .if1 .taken)) ∙ (rw (fuel 12 _ (c .before .before .loop-test .taken)) at (c .before .before .before .loop .inv .1))
 
 loop-again : tie.Need-loop-again Inv-loop μ-loop
-loop-again c = (omega arith, sym (tries-miss _ _ _ _ _ _ _ _ (c .before .attempt .ensures) (c .if1 .left)) ∙ (rw (fuel 12 _ (c .before .before .loop-test .taken)) at (c .before .before .before .loop .inv .1)))
+loop-again c = (
+  omega arith,
+  sym (tries-miss _ _ _ _ _ _ _ _ (c .before .attempt .ensures) (c .if1 .left)) ∙ (rw (fuel 12 _ (c .before .before .loop-test .taken)) at (c .before .before .before .loop .inv .1)),
+)
 
 returns-2 : tie.Need-returns-2 Inv-loop μ-loop
 returns-2 c = let e : c .before .loop .k ≡ 12 = omega arith in tries-none _ _ _ _ _ _ ∙ (rw e at (c .before .loop .inv .1))

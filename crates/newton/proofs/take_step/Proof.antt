@@ -18,10 +18,44 @@ loop-holds : tie.Need-loop-holds Inv-loop μ-loop
 loop-holds c = let a = c .before .args in (refl, omega arith, step-begin (a .t1) (a .t2) (a .w .now) (a .alpha))
 
 loop-again : tie.Need-loop-again Inv-loop μ-loop
-loop-again c = let m = c .before .before .before in let l = m .before .before .before .before .loop in let a = m .before .before .before .before .before .before .args in (l .inv .0, omega arith, step-turn (a .t1) (a .t2) (a .w .now) (a .alpha) (l .b) (l .t) (c .moved2 .result) (m .moved .result) (l .inv .2) (m .moved .ensures) (c .moved2 .ensures))
+loop-again c =
+    let m = c .before .before .before in
+    let l = m .before .before .before .before .loop in
+    let a = m .before .before .before .before .before .before .args in (
+      l .inv .0,
+      omega arith,
+      step-turn (a .t1) (a .t2) (a .w .now) (a .alpha) (l .b) (l .t) (c .moved2 .result) (m .moved .result) (l .inv .2) (m .moved .ensures) (c .moved2 .ensures),
+    )
 
 returns : tie.Need-returns Inv-loop μ-loop
-returns c = let l = c .before .loop in let a = c .before .before .before .args in let e : l .b ≡ a .t1 .n = omega arith in l .inv .2 ∙ ap (λ (k : ℕ). stepTo k (a .t1) (a .t2) (a .w .now) (a .alpha)) e ∙ step-end (a .t1) (a .t2) (a .w .now) (a .alpha)
+returns c =
+    let l = c .before .loop in
+    let a = c .before .before .before .args in
+    let e : l .b ≡ a .t1 .n = omega arith in
+    l .inv .2 ∙ ap (λ (k : ℕ). stepTo k (a .t1) (a .t2) (a .w .now) (a .alpha)) e ∙ step-end (a .t1) (a .t2) (a .w .now) (a .alpha)
 
 pub take-step-spec : {M : Type 1} → statement M
-take-step-spec = tie.close (tie.spec Inv-loop μ-loop loop-holds (λ c. search needs) (λ c. search needs) (λ c. search needs) (λ c. search needs) (λ c κs. search needs) (λ c. search needs) (λ c. search needs) (λ c. search needs) (λ c. search needs) (λ c. search needs) (λ c. search needs) (λ c κs. search needs) (λ c. search needs) (λ c. search needs) (λ c. search needs) (λ c. search needs) loop-again returns)
+take-step-spec =
+    tie.close
+    (tie.spec
+    Inv-loop
+    μ-loop
+    loop-holds
+    (λ c. search needs)
+    (λ c. search needs)
+    (λ c. search needs)
+    (λ c. search needs)
+    (λ c κs. search needs)
+    (λ c. search needs)
+    (λ c. search needs)
+    (λ c. search needs)
+    (λ c. search needs)
+    (λ c. search needs)
+    (λ c. search needs)
+    (λ c κs. search needs)
+    (λ c. search needs)
+    (λ c. search needs)
+    (λ c. search needs)
+    (λ c. search needs)
+    loop-again
+    returns)

@@ -85,7 +85,8 @@ module _ (it : ℕ) (at : Point → Measured) (y : Ybus) (l : AcPfLayout) (p : P
     steps-done h = rw h
 
     module _ (h : lt (m .residual) tolerance ≡ false) where
-      pub steps-singular : (c : ℕ) (v : List Float) → outcome (Solution.Singular c) v ≡ directionOf y l (p .va) m w → stepsFrom (suc k) it at y l p m w ≡ run (ended p it (m .residual) (Singular c)) v
+      pub steps-singular : (c : ℕ) (v : List Float) → outcome (Solution.Singular c) v ≡ directionOf y l (p .va) m w
+          → stepsFrom (suc k) it at y l p m w ≡ run (ended p it (m .residual) (Singular c)) v
       unfolding stepsFrom
       steps-singular c v e = rw (h, ← e)
 
@@ -104,5 +105,6 @@ newton-begins g p w = refl
 
 -- ---- demand 3 at this level: a run depends on demands and schedules only through what is measured
 
-pub newton-same : (g h : Problem) → g .y ≡ h .y → g .layout ≡ h .layout → ((p : Point) → measuredOf g p ≡ measuredOf h p) → (p : Point) (w : List Float) → newtonOf g p w ≡ newtonOf h p w
+pub newton-same : (g h : Problem) → g .y ≡ h .y → g .layout ≡ h .layout → ((p : Point) → measuredOf g p ≡ measuredOf h p) → (p : Point) (w : List Float)
+    → newtonOf g p w ≡ newtonOf h p w
 newton-same g h ey el em p w = sym (newton-begins g p w) ∙ (λ i. stepsFrom 50 0 (λ q. em q i) (ey i) (el i) p (em p i) w) ∙ newton-begins h p w

@@ -26,7 +26,23 @@ unfolding stores
 loop-again c = (omega arith, rw (add-one, ← c .before .before .loop .inv .1))
 
 returns : tie.Need-returns Inv-loop μ-loop
-returns c = let l = c .before .loop in let e : l .b ≡ c .before .before .args .n = omega arith in rw (← e) (l .inv .1)
+returns c =
+    let l = c .before .loop in
+    let e : l .b ≡ c .before .before .args .n = omega arith in
+    rw (← e) (l .inv .1)
 
 pub column-spec : {M : Type 1} → statement M
-column-spec = tie.close (tie.spec Inv-loop μ-loop loop-holds (λ c. search needs) (λ c. search needs) (λ c. search needs) (λ c. search needs) (λ c. search needs) (λ c. search needs) loop-again returns)
+column-spec =
+    tie.close
+    (tie.spec
+    Inv-loop
+    μ-loop
+    loop-holds
+    (λ c. search needs)
+    (λ c. search needs)
+    (λ c. search needs)
+    (λ c. search needs)
+    (λ c. search needs)
+    (λ c. search needs)
+    loop-again
+    returns)

@@ -13,7 +13,9 @@ use Rattle.pf_ac.proofs.search.Statement.{statement}
 use Rattle.pf_ac.proofs.search.Tie as tie
 
 abbrev Inv-loop : tie.InvT-loop
-Inv-loop start n kinds y-row y-col y-re y-im pd qd pg qg limits vm-hold first flat w₀ count best₀ i₀ w best i = (i ≤ count) × (length w ≡ length w₀) × (searchFrom (count - i) i start (study n (ybus y-row y-col y-re y-im) pd qd pg qg limits vm-hold) kinds first flat best w ≡ searchOf start (study n (ybus y-row y-col y-re y-im) pd qd pg qg limits vm-hold) kinds first flat w₀)
+Inv-loop start n kinds y-row y-col y-re y-im pd qd pg qg limits vm-hold first flat w₀ count best₀ i₀ w best i =
+    (i ≤ count) × (length w ≡ length w₀)
+    × (searchFrom (count - i) i start (study n (ybus y-row y-col y-re y-im) pd qd pg qg limits vm-hold) kinds first flat best w ≡ searchOf start (study n (ybus y-row y-col y-re y-im) pd qd pg qg limits vm-hold) kinds first flat w₀)
 
 abbrev μ-loop : tie.MeasureT-loop
 μ-loop start n kinds y-row y-col y-re y-im pd qd pg qg limits vm-hold first flat w₀ count best₀ i₀ w best i = count - i
@@ -22,13 +24,20 @@ loop-holds : tie.Need-loop-holds Inv-loop μ-loop
 loop-holds c = (omega arith, refl, search-begins _ _ _ _ _ _ (c .start-count .ensures .0) _)
 
 start-at-requires : tie.Need-start-at-requires Inv-loop μ-loop
-start-at-requires c κs = let t = c .before .before in (t .before .before .before .before .before .before .before .before .before .pre .0 .good .few, omega (arith, t .start-count .ensures .1))
+start-at-requires c κs =
+    let t = c .before .before in
+    (t .before .before .before .before .before .before .before .before .before .pre .0 .good .few, omega (arith, t .start-count .ensures .1))
 
 solve-qlim-requires : tie.Need-solve-qlim-requires Inv-loop μ-loop
-solve-qlim-requires c κs = let l = c .before .before .before in let s = l .before .before .before .before .before .before .before .before .before .before in (s .pre .0, omega (arith, s .pre .1, l .loop .inv .1))
+solve-qlim-requires c κs =
+    let l = c .before .before .before in
+    let s = l .before .before .before .before .before .before .before .before .before .before in
+    (s .pre .0, omega (arith, s .pre .1, l .loop .inv .1))
 
 same-length : tie.Need-same-length Inv-loop μ-loop
-same-length c = let q = c .before .before .before .before .before .before .before in q .solve-qlim .kept .1 .1 .1 .1 .1 .1 .1 .1 .1 .1 .1 .1 .1 .0 ∙ q .before .before .before .before .loop .inv .1
+same-length c =
+    let q = c .before .before .before .before .before .before .before in
+    q .solve-qlim .kept .1 .1 .1 .1 .1 .1 .1 .1 .1 .1 .1 .1 .1 .0 ∙ q .before .before .before .before .loop .inv .1
 
 returns : tie.Need-returns Inv-loop μ-loop
 returns c =
@@ -61,7 +70,31 @@ same-length-2 : tie.Need-same-length-2 Inv-loop μ-loop
 same-length-2 c = c .before .loop .inv .1
 
 returns-2 : tie.Need-returns-2 Inv-loop μ-loop
-returns-2 c = let l = c .before .loop in let n = c .before .before .start-count in let e : n .result - l .i ≡ 0 = omega arith in search-none _ _ _ _ _ _ _ (n .ensures .0) _ _ ∙ (rw e at (l .inv .2))
+returns-2 c =
+    let l = c .before .loop in
+    let n = c .before .before .start-count in
+    let e : n .result - l .i ≡ 0 = omega arith in
+    search-none _ _ _ _ _ _ _ (n .ensures .0) _ _ ∙ (rw e at (l .inv .2))
 
 pub search-spec : {M : Type 1} → statement M
-search-spec = tie.close (tie.spec Inv-loop μ-loop (λ c κs. search needs) loop-holds start-at-requires solve-qlim-requires (λ c κs. search needs) (λ c κs. search needs) (λ c κs. search needs) (λ c. search needs) (λ c. search needs) same-length returns (λ c. search needs) (λ c. search needs) loop-again same-length-2 returns-2)
+search-spec =
+    tie.close
+    (tie.spec
+    Inv-loop
+    μ-loop
+    (λ c κs. search needs)
+    loop-holds
+    start-at-requires
+    solve-qlim-requires
+    (λ c κs. search needs)
+    (λ c κs. search needs)
+    (λ c κs. search needs)
+    (λ c. search needs)
+    (λ c. search needs)
+    same-length
+    returns
+    (λ c. search needs)
+    (λ c. search needs)
+    loop-again
+    same-length-2
+    returns-2)

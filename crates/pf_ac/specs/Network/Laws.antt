@@ -14,7 +14,8 @@ use Rattle.qlim.specs.Rounds as Rounds
 use Rattle.pf_ac.specs.Search.{Searched, firstOf, searchOf}
 use Rattle.pf_ac.specs.Network.{Network, buses, tripletsOf, Ready, columnOf, kindsFor, referencesFor, acPfOf}
 
-pub study-ready : (t : Network) → Ready t → (qg : List Float) (l : Limits) (hold : List Float) → Rounds.Ready (study (buses t) (tripletsOf t) (t .pd) (t .qd) (t .pg) qg l hold)
+pub study-ready : (t : Network) → Ready t → (qg : List Float) (l : Limits) (hold : List Float)
+    → Rounds.Ready (study (buses t) (tripletsOf t) (t .pd) (t .qd) (t .pg) qg l hold)
 study-ready t r qg l hold =
     let a = r .pd-size in
     let b = r .qd-size in

@@ -42,7 +42,8 @@ module _ (n : ℕ) (few : n ≤ 32) (kinds : List BusKind) (hold va : List Float
   room : (h : ℕ → Float) → n ≤ length (table n nought h)
   room h = simp (stores-length, length-replicate) few
 
-  pin-alike : ((b : ℕ) → b < n → NoReactive (kindOf kinds b) ⊎ (f b ≡ g b)) → pinned n kinds hold (record { vm = table n nought f; va = va }) ≡ pinned n kinds hold (record { vm = table n nought g; va = va })
+  pin-alike : ((b : ℕ) → b < n → NoReactive (kindOf kinds b) ⊎ (f b ≡ g b))
+      → pinned n kinds hold (record { vm = table n nought f; va = va }) ≡ pinned n kinds hold (record { vm = table n nought g; va = va })
   unfolding pinned
   pin-alike same = ap (λ (l : List Float). record { vm = l; va = va }) (ext-getD nan (magnitudes f) (magnitudes g) (simp stores-length) (λ i q. at i (ltb i n) refl))
     where
@@ -55,7 +56,9 @@ module _ (n : ℕ) (few : n ≤ 32) (kinds : List BusKind) (hold va : List Float
       one i h = rw (table-at n nought f i nan h few, table-at n nought g i nan h few) (pins (kindOf kinds i) (f i) (g i) (getD hold i nan) (same i h))
 
       at : (i : ℕ) (t : Bool) → ltb i n ≡ t → getD (magnitudes f) i nan ≡ getD (magnitudes g) i nan
-      at i true e = let h = ltb-true i n e in stores-at (pin f) n (table n nought f) i nan h (room f) ∙ one i h ∙ sym (stores-at (pin g) n (table n nought g) i nan h (room g))
+      at i true e =
+          let h = ltb-true i n e in
+          stores-at (pin f) n (table n nought f) i nan h (room f) ∙ one i h ∙ sym (stores-at (pin g) n (table n nought g) i nan h (room g))
       at i false e =
           let h = ltb-false i n e in
           stores-past (pin f) n (table n nought f) i nan h ∙ stores-past f n (replicate 32 nought) i nan h
@@ -78,7 +81,8 @@ module _ (start : AcStart) (s : Study) (kinds : List BusKind) (p q flat : Point)
   unfolding searchFrom startOf tryOf betterOf
   first m best best' w = λ j. tryOf true best (rounds w j) (λ k v. later m 0 k v j)
 
-search-pinned : (start : AcStart) (s : Study) (kinds : List BusKind) (p q flat : Point) → ((w : List Float) → qlimOf s kinds p w ≡ qlimOf s kinds q w) → (w : List Float)
+search-pinned : (start : AcStart) (s : Study) (kinds : List BusKind) (p q flat : Point) → ((w : List Float) → qlimOf s kinds p w ≡ qlimOf s kinds q w)
+    → (w : List Float)
     → searchOf start s kinds p flat w ≡ searchOf start s kinds q flat w
 unfolding searchOf
 search-pinned Flat s kinds p q flat rounds w = first Flat s kinds p q flat rounds 4 (nothing p) (nothing q) w
@@ -88,7 +92,8 @@ search-pinned Case s kinds p q flat rounds w = first Case s kinds p q flat round
 
 -- t with other stored magnitudes
 abbrev pub stored : Network → List Float → Network
-stored t vm = network (t .kind) (t .vm-set) (t .pd) (t .qd) (t .pg) (t .qg) vm (t .va-case) (t .slacks) (t .va-slacks) (t .gen-bus) (t .qmin) (t .qmax) (t .br-from) (t .br-to) (t .y-row) (t .y-col) (t .y-re) (t .y-im) (t .start)
+stored t vm =
+    network (t .kind) (t .vm-set) (t .pd) (t .qd) (t .pg) (t .qg) vm (t .va-case) (t .slacks) (t .va-slacks) (t .gen-bus) (t .qmin) (t .qmax) (t .br-from) (t .br-to) (t .y-row) (t .y-col) (t .y-re) (t .y-im) (t .start)
 
 module _ (t : Network) (few : buses t ≤ 32) (vm : List Float) (same : (b : ℕ) → b < buses t → ((kindFor t b ≡ Slack) ⊎ (kindFor t b ≡ Pv)) ⊎ SameAt (t .vm-case) vm b) where
   abbrev firstAt : AcStart → List Float → Point
@@ -97,15 +102,18 @@ module _ (t : Network) (few : buses t ≤ 32) (vm : List Float) (same : (b : ℕ
   figure : (b : ℕ) → b < buses t → NoReactive (kindOf (kindsFor t) b) ⊎ (caseVm (t .vm-set) (t .vm-case) b ≡ caseVm (t .vm-set) vm b)
   figure b h = rw (kinds-at (buses t) (t .kind) (t .slacks) b Slack h few) (go (same b h))
     where
-      go : ((kindFor t b ≡ Slack) ⊎ (kindFor t b ≡ Pv)) ⊎ SameAt (t .vm-case) vm b → NoReactive (kindFor t b) ⊎ (caseVm (t .vm-set) (t .vm-case) b ≡ caseVm (t .vm-set) vm b)
+      go : ((kindFor t b ≡ Slack) ⊎ (kindFor t b ≡ Pv)) ⊎ SameAt (t .vm-case) vm b
+          → NoReactive (kindFor t b) ⊎ (caseVm (t .vm-set) (t .vm-case) b ≡ caseVm (t .vm-set) vm b)
       go (inl e) = inl e
       go (inr e) = inr (rw e)
 
-  start-pinned : (start : AcStart) → pinned (buses t) (kindsFor t) (studyFor t .hold) (firstAt start (t .vm-case)) ≡ pinned (buses t) (kindsFor t) (studyFor t .hold) (firstAt start vm)
+  start-pinned : (start : AcStart)
+      → pinned (buses t) (kindsFor t) (studyFor t .hold) (firstAt start (t .vm-case)) ≡ pinned (buses t) (kindsFor t) (studyFor t .hold) (firstAt start vm)
   unfolding caseOf
   start-pinned Flat = refl
   start-pinned Case = pin-alike (buses t) few (kindsFor t) (studyFor t .hold) _ (caseVm (t .vm-set) (t .vm-case)) (caseVm (t .vm-set) vm) figure
 
   pub pinned-unread : (w : List Float) → acPfOf t w ≡ acPfOf (stored t vm) w
   unfolding acPfOf
-  pinned-unread = search-pinned (t .start) (studyFor t) (kindsFor t) (firstFor t) (firstFor (stored t vm)) (flatFor t) (start-unread (kindsFor t) (studyFor t) (firstFor t) (firstFor (stored t vm)) (start-pinned (t .start)))
+  pinned-unread =
+      search-pinned (t .start) (studyFor t) (kindsFor t) (firstFor t) (firstFor (stored t vm)) (flatFor t) (start-unread (kindsFor t) (studyFor t) (firstFor t) (firstFor (stored t vm)) (start-pinned (t .start)))

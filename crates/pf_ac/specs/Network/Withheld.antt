@@ -83,7 +83,8 @@ module _ (start : AcStart) (s u : Study) (n : s .n ≡ u .n) (kinds : List BusKi
 
 -- u's figures in the network t
 abbrev with : Network → Network → Network
-with t u = network (t .kind) (t .vm-set) (u .pd) (u .qd) (u .pg) (u .qg) (u .vm-case) (u .va-case) (t .slacks) (t .va-slacks) (t .gen-bus) (u .qmin) (u .qmax) (t .br-from) (t .br-to) (t .y-row) (t .y-col) (t .y-re) (t .y-im) (t .start)
+with t u =
+    network (t .kind) (t .vm-set) (u .pd) (u .qd) (u .pg) (u .qg) (u .vm-case) (u .va-case) (t .slacks) (t .va-slacks) (t .gen-bus) (u .qmin) (u .qmax) (t .br-from) (t .br-to) (t .y-row) (t .y-col) (t .y-re) (t .y-im) (t .start)
 
 module _ (t u : Network) (few : buses t ≤ 32) (a : Alike t u) where
   -- a sum of limits at a bus: only its own generators count, and those are all withheld or all given

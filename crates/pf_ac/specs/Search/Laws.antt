@@ -22,12 +22,14 @@ pub first-start : (start : AcStart) (n : ℕ) (kinds : List BusKind) (first flat
 unfolding startOf
 first-start start n kinds first flat i e = rw e
 
-pub later-flat : (start : AcStart) (n : ℕ) (kinds : List BusKind) (first flat : Point) (i : ℕ) → start ≡ Flat → (i ≡ 0 → ⊥) → fromFlat n kinds flat i ≡ startOf start n kinds first flat i
+pub later-flat : (start : AcStart) (n : ℕ) (kinds : List BusKind) (first flat : Point) (i : ℕ) → start ≡ Flat → (i ≡ 0 → ⊥)
+    → fromFlat n kinds flat i ≡ startOf start n kinds first flat i
 unfolding startOf
 later-flat start n kinds first flat zero e h = absurd (h refl)
 later-flat start n kinds first flat (suc i) e h = rw e
 
-pub later-case : (start : AcStart) (n : ℕ) (kinds : List BusKind) (first flat : Point) (i : ℕ) → start ≡ Case → (i ≡ 0 → ⊥) → fromFlat n kinds flat (i - 1) ≡ startOf start n kinds first flat i
+pub later-case : (start : AcStart) (n : ℕ) (kinds : List BusKind) (first flat : Point) (i : ℕ) → start ≡ Case → (i ≡ 0 → ⊥)
+    → fromFlat n kinds flat (i - 1) ≡ startOf start n kinds first flat i
 unfolding startOf
 later-case start n kinds first flat zero e h = absurd (h refl)
 later-case start n kinds first flat (suc i) e h = let q : suc i - 1 ≡ i = omega arith in rw (e, q)
@@ -52,7 +54,8 @@ module _ (s : Settled) (starts : ℕ) (found : AcPf) (h : found ≡ judgedOf s s
   judged-solved q = rw q at h
 
 module _ (start : AcStart) (s : Study) (kinds : List BusKind) (first flat : Point) where
-  pub search-none : (i c : ℕ) → c ≡ countOf start → (best : Settled) (w : List Float) → searched (NotConverged (best .residual) c) best w ≡ searchFrom 0 i start s kinds first flat best w
+  pub search-none : (i c : ℕ) → c ≡ countOf start → (best : Settled) (w : List Float)
+      → searched (NotConverged (best .residual) c) best w ≡ searchFrom 0 i start s kinds first flat best w
   unfolding searchFrom
   search-none i c e best w = rw e
 
@@ -62,19 +65,22 @@ module _ (start : AcStart) (s : Study) (kinds : List BusKind) (first flat : Poin
     unfolding searchFrom
     turn = ap (λ (d : Done). tryOf (eqb i 0) best d (searchFrom m (i + 1) start s kinds first flat)) (sym (er ∙ ap (λ (x : Point). qlimOf s kinds x w) ep))
 
-    pub search-ends : (found : AcPf) → found ≡ solved kept → lt (kept .residual) tolerance ≡ true → searchFrom (suc m) i start s kinds first flat best w ≡ searched found kept v
+    pub search-ends : (found : AcPf) → found ≡ solved kept → lt (kept .residual) tolerance ≡ true
+        → searchFrom (suc m) i start s kinds first flat best w ≡ searched found kept v
     search-ends found ef h = turn ∙ try-ends (searchFrom m (i + 1) start s kinds first flat)
       where
         try-ends : (rest : Settled → List Float → Searched) → tryOf (eqb i 0) best (done r v) rest ≡ searched found kept v
         try-ends rest = unfold tryOf in rw (← ey, ← ek, h, ef)
 
-    pub search-on : lt (kept .residual) tolerance ≡ false → searchFrom (suc m) i start s kinds first flat best w ≡ searchFrom m (i + 1) start s kinds first flat kept v
+    pub search-on : lt (kept .residual) tolerance ≡ false
+        → searchFrom (suc m) i start s kinds first flat best w ≡ searchFrom m (i + 1) start s kinds first flat kept v
     search-on h = turn ∙ try-on (searchFrom m (i + 1) start s kinds first flat)
       where
         try-on : (rest : Settled → List Float → Searched) → tryOf (eqb i 0) best (done r v) rest ≡ rest kept v
         try-on rest = unfold tryOf in rw (← ey, ← ek, h)
 
-  pub search-begins : (c : ℕ) → c ≡ countOf start → (w : List Float) → searchFrom (c - 0) 0 start s kinds first flat (nothing first) w ≡ searchOf start s kinds first flat w
+  pub search-begins : (c : ℕ) → c ≡ countOf start → (w : List Float)
+      → searchFrom (c - 0) 0 start s kinds first flat (nothing first) w ≡ searchOf start s kinds first flat w
   unfolding searchOf
   search-begins c e w =
       let q : c - 0 ≡ c = omega arith in

@@ -13,7 +13,9 @@ use Rattle.qlim.proofs.solve_qlim.Statement.{statement}
 use Rattle.qlim.proofs.solve_qlim.Tie as tie
 
 abbrev Inv-loop : tie.InvT-loop
-Inv-loop n y-row y-col y-re y-im pd qd pg qg limits vm-hold w₀ kinds₀ t₀ p₀ last₀ round₀ w kinds t p last round = (round ≤ 12) × (length w ≡ length w₀) × (roundsFrom (12 - round) (study n (ybus y-row y-col y-re y-im) pd qd pg qg limits vm-hold) kinds t p last w ≡ roundsFrom 12 (study n (ybus y-row y-col y-re y-im) pd qd pg qg limits vm-hold) kinds₀ t₀ p₀ last₀ w₀)
+Inv-loop n y-row y-col y-re y-im pd qd pg qg limits vm-hold w₀ kinds₀ t₀ p₀ last₀ round₀ w kinds t p last round =
+    (round ≤ 12) × (length w ≡ length w₀)
+    × (roundsFrom (12 - round) (study n (ybus y-row y-col y-re y-im) pd qd pg qg limits vm-hold) kinds t p last w ≡ roundsFrom 12 (study n (ybus y-row y-col y-re y-im) pd qd pg qg limits vm-hold) kinds₀ t₀ p₀ last₀ w₀)
 
 abbrev μ-loop : tie.MeasureT-loop
 μ-loop n y-row y-col y-re y-im pd qd pg qg limits vm-hold w₀ kinds₀ t₀ p₀ last₀ round₀ w kinds t p last round = 12 - round
@@ -152,4 +154,30 @@ returns-3 c =
     rounds-none _ _ _ _ _ _ ∙ (rw e at (l .inv .2)) ∙ rounds-begin _ _ _ _ (i .before .pin .ensures) _ (i .letters .ensures) _
 
 pub solve-qlim-spec : {M : Type 1} → statement M
-solve-qlim-spec = tie.close (tie.spec Inv-loop μ-loop pin-requires letters-requires loop-holds with-kinds-requires newton-requires settle-requires same-length returns switches-requires any-move-requires settle-requires-2 same-length-2 returns-2 settle-requires-3 kinds-after-requires track-after-requires pin-requires-2 add-round loop-less loop-again same-length-3 returns-3)
+solve-qlim-spec =
+    tie.close
+    (tie.spec
+    Inv-loop
+    μ-loop
+    pin-requires
+    letters-requires
+    loop-holds
+    with-kinds-requires
+    newton-requires
+    settle-requires
+    same-length
+    returns
+    switches-requires
+    any-move-requires
+    settle-requires-2
+    same-length-2
+    returns-2
+    settle-requires-3
+    kinds-after-requires
+    track-after-requires
+    pin-requires-2
+    add-round
+    loop-less
+    loop-again
+    same-length-3
+    returns-3)

@@ -46,7 +46,8 @@ module _ (k : ℕ) (s : Study) (kinds : List BusKind) (t : Track) (p : Point) (l
     (e : Ended) (v : List Float) (ee : run e v ≡ newtonOf (problem (s .y) l (s .pd) (s .qd) (s .pg) (t .qsched)) p w) where
   turn : roundsFrom (suc k) s kinds t p last w ≡ roundOf s kinds t (run e v) (roundsFrom k s)
   unfolding roundsFrom
-  turn = ap (λ (r : Run). roundOf s kinds t r (roundsFrom k s)) (sym (ee ∙ ap (λ (x : AcPfLayout). newtonOf (problem (s .y) x (s .pd) (s .qd) (s .pg) (t .qsched)) p w) el))
+  turn =
+      ap (λ (r : Run). roundOf s kinds t r (roundsFrom k s)) (sym (ee ∙ ap (λ (x : AcPfLayout). newtonOf (problem (s .y) x (s .pd) (s .qd) (s .pg) (t .qsched)) p w) el))
 
   pub rounds-short : le tolerance (e .residual) ≡ true → roundsFrom (suc k) s kinds t p last w ≡ done (settleOf (s .n) kinds e (e .residual)) v
   rounds-short h = turn ∙ round-short s kinds t e v (roundsFrom k s) h
@@ -56,11 +57,13 @@ module _ (k : ℕ) (s : Study) (kinds : List BusKind) (t : Track) (p : Point) (l
     pub rounds-still : anyMove (s .n) ms ≡ false → roundsFrom (suc k) s kinds t p last w ≡ done (settleOf (s .n) kinds e (e .residual)) v
     rounds-still ha = turn ∙ round-still s kinds t e v (roundsFrom k s) h ms em ha
 
-    pub rounds-on : anyMove (s .n) ms ≡ true → (next : List BusKind) → next ≡ kindsAfter (s .n) kinds ms → (u : Track) → u ≡ trackAfter (s .n) t (s .limits) (s .qg) ms
+    pub rounds-on : anyMove (s .n) ms ≡ true → (next : List BusKind) → next ≡ kindsAfter (s .n) kinds ms → (u : Track)
+        → u ≡ trackAfter (s .n) t (s .limits) (s .qg) ms
         → (q : Point) → q ≡ pinned (s .n) next (s .hold) (e .point) → roundsFrom (suc k) s kinds t p last w ≡ roundsFrom k s next u q (settleOf (s .n) kinds e infinity) v
     rounds-on ha next en u eu q eq = turn ∙ round-on s kinds t e v (roundsFrom k s) h ms em ha next en u eu q eq
 
-pub rounds-begin : (s : Study) (kinds : List BusKind) (p start : Point) → start ≡ pinned (s .n) kinds (s .hold) p → (ls : List ℕ) → ls ≡ lettersOf (s .n) kinds → (w : List Float)
+pub rounds-begin : (s : Study) (kinds : List BusKind) (p start : Point) → start ≡ pinned (s .n) kinds (s .hold) p → (ls : List ℕ) → ls ≡ lettersOf (s .n) kinds
+    → (w : List Float)
     → roundsFrom 12 s kinds (fresh (s .qg)) start (record { point = start; letters = ls; iterations = 0; residual = infinity }) w ≡ qlimOf s kinds p w
 unfolding qlimOf
 rounds-begin s kinds p start es ls el w = by 12
@@ -73,4 +76,5 @@ rounds-begin s kinds p start es ls el w = by 12
 pub newton-ready : (s : Study) → Ready s → (kinds : List BusKind) (l : AcPfLayout) → l ≡ layoutOf (s .n) kinds → (qg : List Float)
     → Newton.Ready (problem (s .y) l (s .pd) (s .qd) (s .pg) qg)
 unfolding layoutOf
-newton-ready s r kinds l el qg = rw el (record { good = r .good; small = dim-most (s .n) kinds (r .good .few); demands = r .demands; reactive = r .reactive; dispatch = r .dispatch })
+newton-ready s r kinds l el qg =
+    rw el (record { good = r .good; small = dim-most (s .n) kinds (r .good .few); demands = r .demands; reactive = r .reactive; dispatch = r .dispatch })

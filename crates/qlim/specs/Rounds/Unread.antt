@@ -46,7 +46,8 @@ pub record AlikeStudies (kinds : List BusKind) (s u : Study) : Type 0 where
 
 -- u's figures in the study s
 abbrev with : Study → Study → Study
-with s u = study (s .n) (s .y) (u .pd) (u .qd) (u .pg) (u .qg) (record { qmin = u .limits .qmin; qmax = u .limits .qmax; «has_gen» = s .limits .«has_gen» }) (s .hold)
+with s u =
+    study (s .n) (s .y) (u .pd) (u .qd) (u .pg) (u .qg) (record { qmin = u .limits .qmin; qmax = u .limits .qmax; «has_gen» = s .limits .«has_gen» }) (s .hold)
 
 abbrev track : List Float → List ℕ → List Bool → Track
 track x c r = record { qsched = x; converted = c; reverted = r }
@@ -81,7 +82,8 @@ module _ (d : List BusKind) (s u : Study) (few : s .n ≤ 32) (a : AlikeStudies 
     abbrev other : Problem
     other = problem (s .y) (layoutOf (s .n) kinds) (u .pd) (u .qd) (u .pg) y
 
-    residual-alike : (p q : List Float) → residualOf (layoutOf (s .n) kinds) (powers (s .pd) (s .qd) (s .pg) x p q) ≡ residualOf (layoutOf (s .n) kinds) (powers (u .pd) (u .qd) (u .pg) y p q)
+    residual-alike : (p q : List Float)
+        → residualOf (layoutOf (s .n) kinds) (powers (s .pd) (s .qd) (s .pg) x p q) ≡ residualOf (layoutOf (s .n) kinds) (powers (u .pd) (u .qd) (u .pg) y p q)
     residual-alike p q =
         residual-unread (s .n) kinds _ _ few
         (record {
@@ -112,7 +114,8 @@ module _ (d : List BusKind) (s u : Study) (few : s .n ≤ 32) (a : AlikeStudies 
       sum-alike : (b : ℕ) → b < s .n → NoActive (kindOf d b) ⊎ (add binary64 (getD q b nan) (getD (s .qd) b nan) ≡ add binary64 (getD q b nan) (getD (u .qd) b nan))
       sum-alike b h = go (a .same-qd b h)
         where
-          go : NoActive (kindOf d b) ⊎ (getD (s .qd) b nan ≡ getD (u .qd) b nan) → NoActive (kindOf d b) ⊎ (add binary64 (getD q b nan) (getD (s .qd) b nan) ≡ add binary64 (getD q b nan) (getD (u .qd) b nan))
+          go : NoActive (kindOf d b) ⊎ (getD (s .qd) b nan ≡ getD (u .qd) b nan)
+              → NoActive (kindOf d b) ⊎ (add binary64 (getD q b nan) (getD (s .qd) b nan) ≡ add binary64 (getD q b nan) (getD (u .qd) b nan))
           go (inl e) = inl e
           go (inr e) = inr (rw e)
 
@@ -131,7 +134,8 @@ module _ (d : List BusKind) (s u : Study) (few : s .n ≤ 32) (a : AlikeStudies 
           → After (getD (s .limits .qmin) b nan) (getD (u .limits .qmin) b nan) (getD (s .limits .qmax) b nan) (getD (u .limits .qmax) b nan) (getD (s .qg) b nan) (getD (u .qg) b nan)
           (kindOf d b) (kindOf kinds b) (getD c b 0) (getD x b nan) (getD y b nan) (getD moves b Keep)
       unfolding movesOf
-      bus-on b h = rw (table-at (s .n) Keep (moveAt kinds (s .limits) (track x c r) (s .qd) q vm (s .hold)) b Keep h few) (standing-on _ _ _ _ _ _ _ _ _ _ _ (i .at b h) (a .same-limits b h))
+      bus-on b h =
+          rw (table-at (s .n) Keep (moveAt kinds (s .limits) (track x c r) (s .qd) q vm (s .hold)) b Keep h few) (standing-on _ _ _ _ _ _ _ _ _ _ _ (i .at b h) (a .same-limits b h))
 
       stand-on : Stand (kindsAfter (s .n) kinds moves) (track-on .converted) (track-on .qsched) (track-on' .qsched)
       unfolding kindsAfter
@@ -141,7 +145,8 @@ module _ (d : List BusKind) (s u : Study) (few : s .n ≤ 32) (a : AlikeStudies 
             converted-room = rw stores-length (i .converted-room);
             x-room = rw stores-length (i .x-room);
             y-room = rw stores-length (i .y-room);
-            at = λ b h. rw (stores-at _ (s .n) kinds b Slack h (i .kinds-room), stores-at _ (s .n) c b 0 h (i .converted-room), stores-at _ (s .n) x b nan h (i .x-room), stores-at _ (s .n) y b nan h (i .y-room)) (bus-on b h);
+            at =
+                λ b h. rw (stores-at _ (s .n) kinds b Slack h (i .kinds-room), stores-at _ (s .n) c b 0 h (i .converted-room), stores-at _ (s .n) x b nan h (i .x-room), stores-at _ (s .n) y b nan h (i .y-room)) (bus-on b h);
           }
 
   -- ---- the rounds
@@ -151,7 +156,8 @@ module _ (d : List BusKind) (s u : Study) (few : s .n ≤ 32) (a : AlikeStudies 
 
   -- whatever goes on from tables that stand goes on alike
   abbrev Alike : Rest → Rest → Type 0
-  Alike f g = (kinds : List BusKind) (c : List ℕ) (r : List Bool) (x y : List Float) → Stand kinds c x y → (p : Point) (last : Settled) (w : List Float) → f kinds (track x c r) p last w ≡ g kinds (track y c r) p last w
+  Alike f g =
+      (kinds : List BusKind) (c : List ℕ) (r : List Bool) (x y : List Float) → Stand kinds c x y → (p : Point) (last : Settled) (w : List Float) → f kinds (track x c r) p last w ≡ g kinds (track y c r) p last w
 
   module _ (f g : Rest) (alike : Alike f g) (kinds : List BusKind) (c : List ℕ) (r : List Bool) (x y : List Float) (i : Stand kinds c x y) (e : Run) where
     abbrev at-end : Point
@@ -204,13 +210,16 @@ module _ (d : List BusKind) (s u : Study) (few : s .n ≤ 32) (a : AlikeStudies 
 -- ---- what the rounds give
 
 -- whatever the start and the workspace
-pub rounds-unread : (kinds : List BusKind) (s u : Study) → s .n ≤ 32 → AlikeStudies kinds s u → (p : Point) (w : List Float) → qlimOf s kinds p w ≡ qlimOf u kinds p w
+pub rounds-unread : (kinds : List BusKind) (s u : Study) → s .n ≤ 32 → AlikeStudies kinds s u → (p : Point) (w : List Float)
+    → qlimOf s kinds p w ≡ qlimOf u kinds p w
 unfolding qlimOf
 rounds-unread kinds s u few a p w = by 12
   where
     -- the start, over any number of rounds
     from : ℕ → Study → Done
-    from m t = let start = pinned (t .n) kinds (t .hold) p in roundsFrom m t kinds (fresh (t .qg)) start (record { point = start; letters = lettersOf (t .n) kinds; iterations = 0; residual = infinity }) w
+    from m t =
+        let start = pinned (t .n) kinds (t .hold) p in
+        roundsFrom m t kinds (fresh (t .qg)) start (record { point = start; letters = lettersOf (t .n) kinds; iterations = 0; residual = infinity }) w
 
     by : (m : ℕ) → from m s ≡ from m u
     by m =
@@ -218,7 +227,8 @@ rounds-unread kinds s u few a p w = by 12
         ∙ (λ j. from m (study (a .same-n j) (a .same-y j) (u .pd) (u .qd) (u .pg) (u .qg) (record { qmin = u .limits .qmin; qmax = u .limits .qmax; «has_gen» = a .same-gens j }) (a .same-hold j)))
 
 -- and of the start only what is left of it once the held magnitudes are set
-pub start-unread : (kinds : List BusKind) (s : Study) (p q : Point) → pinned (s .n) kinds (s .hold) p ≡ pinned (s .n) kinds (s .hold) q → (w : List Float) → qlimOf s kinds p w ≡ qlimOf s kinds q w
+pub start-unread : (kinds : List BusKind) (s : Study) (p q : Point) → pinned (s .n) kinds (s .hold) p ≡ pinned (s .n) kinds (s .hold) q → (w : List Float)
+    → qlimOf s kinds p w ≡ qlimOf s kinds q w
 unfolding qlimOf
 start-unread kinds s p q e w = by 12
   where

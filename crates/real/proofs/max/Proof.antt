@@ -4,9 +4,6 @@ use Rattle.real.specs.Real.{larger, maxOf}
 use Rattle.real.proofs.max.Statement.{statement}
 use Rattle.real.proofs.max.Tie as tie
 
-is-nan-requires : tie.Need-is-nan-requires
-is-nan-requires c κs = search needs
-
 returns : tie.Need-returns
 unfolding maxOf
 returns c = rw (← c .before .is-nan .ensures, c .if1 .taken)
@@ -20,4 +17,4 @@ unfolding maxOf larger
 returns-3 c = rw (← c .before .before .is-nan .ensures, c .before .if1 .left, c .if2 .left)
 
 pub max-spec : {M : Type 1} → statement M
-max-spec = tie.close (tie.spec is-nan-requires returns returns-2 returns-3)
+max-spec = tie.close (tie.spec (λ c κs. search needs) returns returns-2 returns-3)

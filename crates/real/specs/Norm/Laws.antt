@@ -39,7 +39,8 @@ number zero l h = refl
 number (suc k) l h =
     number-larger (largest k l) (absolute (getD l k nan)) (number k l (nor-left (anyNan k l) _ h)) (nan-absolute (getD l k nan) ∙ nor-right (anyNan k l) _ h)
 
-pub norm-turn : (k : ℕ) (l : List Float) (norm r : Float) → Found k l norm → isNan (getD l k nan) ≡ false → r ≡ maxOf norm (absolute (getD l k nan)) → Found (k + 1) l r
+pub norm-turn : (k : ℕ) (l : List Float) (norm r : Float) → Found k l norm → isNan (getD l k nan) ≡ false → r ≡ maxOf norm (absolute (getD l k nan))
+    → Found (k + 1) l r
 unfolding largest
 norm-turn k l norm r f h e =
     rw add-one
@@ -103,7 +104,8 @@ met (suc k) l = go (one-of (largest k l) (absolute (getD l k nan))) (met k l)
     a : Float
     a = largest k l
 
-    go : (larger a (absolute (getD l k nan)) ≡ a) ⊎ (larger a (absolute (getD l k nan)) ≡ absolute (getD l k nan)) → Met k l a → Met (suc k) l (larger a (absolute (getD l k nan)))
+    go : (larger a (absolute (getD l k nan)) ≡ a) ⊎ (larger a (absolute (getD l k nan)) ≡ absolute (getD l k nan)) → Met k l a
+        → Met (suc k) l (larger a (absolute (getD l k nan)))
     go (inr p) m = inr (k, omega arith, p)
     go (inl p) (inl z) = inl (p ∙ z)
     go (inl p) (inr w) = inr (w .0, omega (arith, w .1), p ∙ w .2)

@@ -4,6 +4,7 @@ use Prim.Native.Nat.{_-_, _≤_}
 use native.Mathlib.Omega.{arith}
 use lib.Seq.{slice}
 use Rattle.fields.specs.Cut.{pieces}
+use Rattle.rows.specs.Asked.{wantOf, goodOf}
 use Rattle.rows.specs.Line.{fieldsOf}
 use Rattle.rows.specs.Line.Laws.{good-is, field-wrong, field-last, field-on}
 use borrow.Author.Needs.{needs}
@@ -20,26 +21,35 @@ abbrev μ-loop : tie.MeasureT-loop
 loop-holds : tie.Need-loop-holds Inv-loop μ-loop
 loop-holds c = (search needs, search needs, refl)
 
+-- what the two calls say of the field found: whether it is what is asked
+said : (c : tie.After-good2 Inv-loop μ-loop) → let l = c .before .before .before .loop in let a = c .before .before .before .before .before .args in
+    goodOf (wantOf (a .t) (l .j)) (slice (l .i) (c .before .before .find .result) (a .s .now)) ≡ c .good2 .result
+said c =
+    let l = c .before .before .before .loop in
+    let a = c .before .before .before .before .before .args in
+    let field = slice (l .i) (c .before .before .find .result) (a .s .now) in
+    good-is (a .t) (l .j) field (c .before .wanted .result) (c .before .wanted .ensures) (c .good2 .result) (c .good2 .ensures)
+
 returns : tie.Need-returns Inv-loop μ-loop
 returns c =
-    let a = c .before .before .before .before .before .before .before .args in
-    let l = c .before .before .before .before .before .loop in
-    let f = c .before .before .before .before .find in
-    sym (field-last (a .s .now) (a .t) (l .i) (a .e) (f .result) (l .j) (omega arith) (f .ensures) (good-is (a .t) (l .j) (slice (l .i) (f .result) (a .s .now)) (c .before .before .before .wanted .result) (c .before .before .before .wanted .ensures) (c .before .before .good2 .result) (c .before .before .good2 .ensures) ∙ c .before .if1 .taken) (omega arith)) ∙ l .inv .2
+    let g = c .before .before in
+    let f = g .before .before .find in
+    let l = g .before .before .before .loop in
+    sym (field-last _ _ (l .i) _ (f .result) (l .j) (omega arith) (f .ensures) (said g ∙ c .before .if1 .taken) (omega arith)) ∙ l .inv .2
 
 loop-again : tie.Need-loop-again Inv-loop μ-loop
 loop-again c =
-    let a = c .before .before .before .before .before .before .before .args in
-    let l = c .before .before .before .before .before .loop in
-    let f = c .before .before .before .before .find in
-    (omega arith, omega arith, sym (field-on (a .s .now) (a .t) (l .i) (a .e) (f .result) (l .j) (omega arith) (f .ensures) (good-is (a .t) (l .j) (slice (l .i) (f .result) (a .s .now)) (c .before .before .before .wanted .result) (c .before .before .before .wanted .ensures) (c .before .before .good2 .result) (c .before .before .good2 .ensures) ∙ c .before .if1 .taken) (omega arith)) ∙ l .inv .2)
+    let g = c .before .before in
+    let f = g .before .before .find in
+    let l = g .before .before .before .loop in
+    (omega arith, omega arith, sym (field-on _ _ (l .i) _ (f .result) (l .j) (omega arith) (f .ensures) (said g ∙ c .before .if1 .taken) (omega arith)) ∙ l .inv .2)
 
 returns-2 : tie.Need-returns-2 Inv-loop μ-loop
 returns-2 c =
-    let a = c .before .before .before .before .before .before .args in
-    let l = c .before .before .before .before .loop in
-    let f = c .before .before .before .find in
-    sym (field-wrong (a .s .now) (a .t) (l .i) (a .e) (f .result) (l .j) (omega arith) (f .ensures) (good-is (a .t) (l .j) (slice (l .i) (f .result) (a .s .now)) (c .before .before .wanted .result) (c .before .before .wanted .ensures) (c .before .good2 .result) (c .before .good2 .ensures) ∙ c .if1 .left)) ∙ l .inv .2
+    let g = c .before in
+    let f = g .before .before .find in
+    let l = g .before .before .before .loop in
+    sym (field-wrong _ _ (l .i) _ (f .result) (l .j) (omega arith) (f .ensures) (said g ∙ c .if1 .left)) ∙ l .inv .2
 
 pub check-fields-spec : {M : Type 1} → statement M
 check-fields-spec =

@@ -11,7 +11,9 @@ use Rattle.rows.proofs.check_line.Statement.{statement}
 use Rattle.rows.proofs.check_line.Tie as tie
 
 check-fields-requires : tie.Need-check-fields-requires
-check-fields-requires c κs = let a = c .before .before .before .args in omega (arith, form-split (a .s .now) (a .a) (a .e) (a .t) (omega arith) (omega arith) (sym (c .before .form .ensures) ∙ c .if1 .taken) .0)
+check-fields-requires c κs =
+    let a = c .before .before .before .args in
+    omega (arith, form-split (a .s .now) (a .a) (a .e) (a .t) (omega arith) (omega arith) (sym (c .before .form .ensures) ∙ c .if1 .taken) .0)
 
 returns : tie.Need-returns
 returns c =

@@ -45,28 +45,30 @@ returns c =
 
 returns-2 : tie.Need-returns-2 Inv-loop μ-loop
 returns-2 c =
-    let a = c .before .before .before .before .before .before .before .args in
-    let l = c .before .before .before .before .before .loop in
     let f = c .before .find in
-    sym (unended (a .t) (l .r) (a .s .now) (l .i) (a .e) (f .result) (omega arith) (omega arith) (f .ensures) (rw (← c .before .before .before .size .ensures) (c .before .before .if1 .left)) (omega arith)) ∙ l .inv .2
+    let few = c .before .before in
+    let l = few .before .before .before .loop in
+    sym (unended _ (l .r) _ (l .i) _ (f .result) (omega arith) (omega arith) (f .ensures) (rw (← few .before .size .ensures) (few .if1 .left)) (omega arith)) ∙ l .inv .2
 
 returns-3 : tie.Need-returns-3 Inv-loop μ-loop
 returns-3 c =
-    let a = c .before .before .before .before .before .before .before .before .before .args in
-    let l = c .before .before .before .before .before .before .before .loop in
-    let f = c .before .before .before .find in
     let v = c .before .check-line in
-    sym (line-refused (a .t) (l .r) (a .s .now) (l .i) (a .e) (f .result) (omega arith) (omega arith) (f .ensures) (rw (← c .before .before .before .before .before .size .ensures) (c .before .before .before .before .if1 .left)) (omega arith) (v .result) (v .ensures) (λ w. kept (v .result) w (c .match .keys2))) ∙ l .inv .2
+    let f = c .before .before .before .find in
+    let few = c .before .before .before .before in
+    let l = few .before .before .before .loop in
+    sym (line-refused _ (l .r) _ (l .i) _ (f .result) (omega arith) (omega arith) (f .ensures) (rw (← few .before .size .ensures) (few .if1 .left)) (omega arith)
+    (v .result) (v .ensures) (λ w. kept (v .result) w (c .match .keys2))) ∙ l .inv .2
 
 loop-again : tie.Need-loop-again Inv-loop μ-loop
 loop-again c =
-    let a = c .before .before .before .before .before .before .before .before .before .before .args in
-    let l = c .before .before .before .before .before .before .before .before .loop in
+    let v = c .before .before .check-line in
     let f = c .before .before .before .before .find in
-    let v = c .before .before .check-line in (
+    let few = c .before .before .before .before .before in
+    let l = few .before .before .before .loop in (
       omega arith,
       omega arith,
-      sym (line-good (a .t) (l .r) (a .s .now) (l .i) (a .e) (f .result) (omega arith) (omega arith) (f .ensures) (rw (← c .before .before .before .before .before .before .size .ensures) (c .before .before .before .before .before .if1 .left)) (omega arith) (v .result) (v .ensures) _ (c .enum-told .given .1)) ∙ l .inv .2,
+      sym (line-good _ (l .r) _ (l .i) _ (f .result) (omega arith) (omega arith) (f .ensures) (rw (← few .before .size .ensures) (few .if1 .left)) (omega arith)
+          (v .result) (v .ensures) _ (c .enum-told .given .1)) ∙ l .inv .2,
     )
 
 returns-4 : tie.Need-returns-4 Inv-loop μ-loop

@@ -164,7 +164,8 @@ after-first (Check.Rows k) w n h = never (Check.Rows k) n h refl
 after-first (Check.Form k) w n h = never (Check.Form k) n h refl
 after-first (Check.Field k) w n h = never (Check.Field k) n h refl
 
-line-fields : (t : Section) (at n : ℕ) (l : List ℕ) → formOf t (pieces 32 l) ≡ true → lineOf t at l ≡ Check.Good n → fieldsOf t 0 (at + 2) (fieldsIn l) ≡ Check.Good n
+line-fields : (t : Section) (at n : ℕ) (l : List ℕ) → formOf t (pieces 32 l) ≡ true → lineOf t at l ≡ Check.Good n
+    → fieldsOf t 0 (at + 2) (fieldsIn l) ≡ Check.Good n
 line-fields t at n l g h = rw g at h
 
 line-sound : (t : Section) (at : ℕ) (l : List ℕ) (w : Check) (n : ℕ) → after (lineOf t at l) w ≡ Check.Good n → Sound t (fieldsIn l)

@@ -11,7 +11,9 @@ use Rattle.starts.proofs.by_island.Statement.{statement}
 use Rattle.starts.proofs.by_island.Tie as tie
 
 abbrev Inv-loop : tie.InvT-loop
-Inv-loop slacks va-slacks labels slack₀ va₀ i₀ i-end slack va i = (i ≤ i-end) × (i-end ≡ length slacks) × (slack ≡ table 32 noSlack (slackOf i slacks (λ b. getD labels b 0))) × (va ≡ table 32 nought (angleOf i slacks va-slacks (λ b. getD labels b 0)))
+Inv-loop slacks va-slacks labels slack₀ va₀ i₀ i-end slack va i =
+    (i ≤ i-end) × (i-end ≡ length slacks) × (slack ≡ table 32 noSlack (slackOf i slacks (λ b. getD labels b 0)))
+    × (va ≡ table 32 nought (angleOf i slacks va-slacks (λ b. getD labels b 0)))
 
 abbrev μ-loop : tie.MeasureT-loop
 μ-loop slacks va-slacks labels slack₀ va₀ i₀ i-end slack va i = i-end - i
@@ -45,10 +47,40 @@ array-write-va : tie.Need-array-write-va Inv-loop μ-loop
 array-write-va c = omega (arith, bus (c .before .before), label (c .before .before))
 
 loop-again : tie.Need-loop-again Inv-loop μ-loop
-loop-again c = let i = c .before .before in let l = i .before .loop in let a = i .before .before .args in (omega arith, l .inv .1, rw (l .inv .2) (rows-more (a .slacks .now) (a .t3) _ _ (l .i) (label i)), rw (l .inv .3) (rows-more (a .slacks .now) (a .t3) _ _ (l .i) (label i)))
+loop-again c =
+    let i = c .before .before in
+    let l = i .before .loop in
+    let a = i .before .before .args in (
+      omega arith,
+      l .inv .1,
+      rw (l .inv .2) (rows-more (a .slacks .now) (a .t3) _ _ (l .i) (label i)),
+      rw (l .inv .3) (rows-more (a .slacks .now) (a .t3) _ _ (l .i) (label i)),
+    )
 
 returns : tie.Need-returns Inv-loop μ-loop
-returns c = let l = c .before .loop in let e : l .i ≡ length (c .before .before .args .slacks .now) = omega arith in rw (l .inv .2, l .inv .3, e)
+returns c =
+    let l = c .before .loop in
+    let e : l .i ≡ length (c .before .before .args .slacks .now) = omega arith in
+    rw (l .inv .2, l .inv .3, e)
 
 pub by-island-spec : {M : Type 1} → statement M
-by-island-spec = tie.close (tie.spec Inv-loop μ-loop loop-holds (λ c. omega arith) (λ c. omega arith) mul-l array-read-l mul-slack array-write-slack (λ c. omega arith) (λ c. omega arith) mul-va-2 array-write-va (λ c. omega arith) (λ c. omega arith) loop-again returns)
+by-island-spec =
+    tie.close
+    (tie.spec
+    Inv-loop
+    μ-loop
+    loop-holds
+    (λ c. omega arith)
+    (λ c. omega arith)
+    mul-l
+    array-read-l
+    mul-slack
+    array-write-slack
+    (λ c. omega arith)
+    (λ c. omega arith)
+    mul-va-2
+    array-write-va
+    (λ c. omega arith)
+    (λ c. omega arith)
+    loop-again
+    returns)

@@ -21,15 +21,49 @@ unfolding stores
 loop-holds c = search needs
 
 slack-angle-requires : tie.Need-slack-angle-requires Inv-loop μ-loop
-slack-angle-requires c κs = λ h. let i = c .before .before .before .before in let s = i .before .before .before .before .before in let k = s .pre .4 (i .before .loop .b) (omega arith) h in omega arith
+slack-angle-requires c κs =
+    λ h. let i = c .before .before .before .before in let s = i .before .before .before .before .before in let k = s .pre .4 (i .before .loop .b) (omega arith) h in omega arith
 
 loop-again : tie.Need-loop-again Inv-loop μ-loop
 unfolding stores
-loop-again c = let s = c .before .before .before in let m = s .before .before in let l = m .before .before .before .before .loop in (omega arith, rw (add-one, ← l .inv .1, ← m .magnitude-for .ensures), rw (add-one, ← l .inv .2, ← s .slack-angle .ensures, ← c .angle-for .ensures))
+loop-again c =
+    let s = c .before .before .before in
+    let m = s .before .before in
+    let l = m .before .before .before .before .loop in
+    (omega arith, rw (add-one, ← l .inv .1, ← m .magnitude-for .ensures), rw (add-one, ← l .inv .2, ← s .slack-angle .ensures, ← c .angle-for .ensures))
 
 returns : tie.Need-returns Inv-loop μ-loop
 unfolding caseOf
-returns c = let l = c .before .loop in let e : l .b ≡ c .before .before .before .before .before .args .n = omega arith in rw (← e, l .inv .1, l .inv .2)
+returns c =
+    let l = c .before .loop in
+    let e : l .b ≡ c .before .before .before .before .before .args .n = omega arith in
+    rw (← e, l .inv .1, l .inv .2)
 
 pub case-start-spec : {M : Type 1} → statement M
-case-start-spec = tie.close (tie.spec Inv-loop μ-loop loop-holds (λ c. search needs) (λ c. search needs) (λ c. search needs) (λ c. search needs) (λ c κs. search needs) (λ c. search needs) (λ c. search needs) (λ c. search needs) (λ c. search needs) slack-angle-requires (λ c. search needs) (λ c. search needs) (λ c. search needs) (λ c. search needs) (λ c κs. search needs) (λ c. search needs) (λ c. search needs) (λ c. search needs) (λ c. search needs) loop-again returns)
+case-start-spec =
+    tie.close
+    (tie.spec
+    Inv-loop
+    μ-loop
+    loop-holds
+    (λ c. search needs)
+    (λ c. search needs)
+    (λ c. search needs)
+    (λ c. search needs)
+    (λ c κs. search needs)
+    (λ c. search needs)
+    (λ c. search needs)
+    (λ c. search needs)
+    (λ c. search needs)
+    slack-angle-requires
+    (λ c. search needs)
+    (λ c. search needs)
+    (λ c. search needs)
+    (λ c. search needs)
+    (λ c κs. search needs)
+    (λ c. search needs)
+    (λ c. search needs)
+    (λ c. search needs)
+    (λ c. search needs)
+    loop-again
+    returns)

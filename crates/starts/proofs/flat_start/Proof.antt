@@ -28,7 +28,27 @@ loop-again c = let l = c .before .before .before .loop in (omega arith, rw (add-
 
 returns : tie.Need-returns Inv-loop μ-loop
 unfolding flatOf
-returns c = let l = c .before .loop in let e : l .b ≡ c .before .before .args .n = omega arith in rw (← e, l .inv .1, l .inv .2)
+returns c =
+    let l = c .before .loop in
+    let e : l .b ≡ c .before .before .args .n = omega arith in
+    rw (← e, l .inv .1, l .inv .2)
 
 pub flat-start-spec : {M : Type 1} → statement M
-flat-start-spec = tie.close (tie.spec Inv-loop μ-loop loop-holds (λ c. search needs) (λ c. search needs) (λ c. search needs) (λ c. search needs) (λ c. search needs) (λ c. search needs) (λ c. search needs) (λ c. search needs) (λ c. search needs) (λ c. search needs) loop-again returns)
+flat-start-spec =
+    tie.close
+    (tie.spec
+    Inv-loop
+    μ-loop
+    loop-holds
+    (λ c. search needs)
+    (λ c. search needs)
+    (λ c. search needs)
+    (λ c. search needs)
+    (λ c. search needs)
+    (λ c. search needs)
+    (λ c. search needs)
+    (λ c. search needs)
+    (λ c. search needs)
+    (λ c. search needs)
+    loop-again
+    returns)

@@ -26,7 +26,8 @@ module _ {A : Type 0} (slacks labels : List ℕ) (f : ℕ → A) (z : A) where
   unfolding laterRow
   rows-begin = sym (table-same 32 z)
 
-  pub rows-more : (k : ℕ) → label (getD slacks k 0) < 32 → set (table 32 z (laterRow k slacks label f z)) (label (getD slacks k 0)) (f k) ≡ table 32 z (laterRow (k + 1) slacks label f z)
+  pub rows-more : (k : ℕ) → label (getD slacks k 0) < 32
+      → set (table 32 z (laterRow k slacks label f z)) (label (getD slacks k 0)) (f k) ≡ table 32 z (laterRow (k + 1) slacks label f z)
   unfolding laterRow
   rows-more k below =
       table-set 32 z (laterRow k slacks label f z) (label (getD slacks k 0)) (f k) below (le-refl 32)
@@ -62,11 +63,13 @@ unfolding laterRow
 one-of zero n slacks label l h p = absurd (omega arith)
 one-of (suc k) n slacks label l h p = go (eqb l (label (getD slacks k 0))) p (one-of k n slacks label l (λ i q. h i (omega arith)))
   where
-    go : (t : Bool) → cond t (getD slacks k 0) (slackOf k slacks label l) < 32 → (slackOf k slacks label l < 32 → slackOf k slacks label l < n) → cond t (getD slacks k 0) (slackOf k slacks label l) < n
+    go : (t : Bool) → cond t (getD slacks k 0) (slackOf k slacks label l) < 32 → (slackOf k slacks label l < 32 → slackOf k slacks label l < n)
+        → cond t (getD slacks k 0) (slackOf k slacks label l) < n
     go true q r = h k (omega arith)
     go false q r = r q
 
-pub references-slacks : (n : ℕ) (slacks : List ℕ) (angles : List Float) (from to : List ℕ) → n ≤ 32 → Below n slacks → Slacks n (referencesOf n slacks angles from to)
+pub references-slacks : (n : ℕ) (slacks : List ℕ) (angles : List Float) (from to : List ℕ) → n ≤ 32 → Below n slacks
+    → Slacks n (referencesOf n slacks angles from to)
 unfolding referencesOf
 references-slacks n slacks angles from to few below b h =
     rw (table-at n noSlack (slackFor slacks from to) b 0 h few) (one-of (length slacks) n slacks (labelOf from to) (labelOf from to b) below)

@@ -29,7 +29,22 @@ same-length : tie.Need-same-length Inv-loop μ-loop
 same-length c = c .before .loop .inv .2
 
 returns : tie.Need-returns Inv-loop μ-loop
-returns c = let l = c .before .loop in let e : l .i ≡ length (c .before .before .args .w .now) = omega arith in l .inv .3 ∙ ap (λ (k : ℕ). stores (λ b. nought) k (c .before .before .args .w .now)) e ∙ zeros-are (c .before .before .args .w .now)
+returns c =
+    let l = c .before .loop in
+    let e : l .i ≡ length (c .before .before .args .w .now) = omega arith in
+    l .inv .3 ∙ ap (λ (k : ℕ). stores (λ b. nought) k (c .before .before .args .w .now)) e ∙ zeros-are (c .before .before .args .w .now)
 
 pub zero-spec : {M : Type 1} → statement M
-zero-spec = tie.close (tie.spec Inv-loop μ-loop loop-holds (λ c. search needs) (λ c. search needs) (λ c. search needs) (λ c. search needs) loop-again same-length returns)
+zero-spec =
+    tie.close
+    (tie.spec
+    Inv-loop
+    μ-loop
+    loop-holds
+    (λ c. search needs)
+    (λ c. search needs)
+    (λ c. search needs)
+    (λ c. search needs)
+    loop-again
+    same-length
+    returns)

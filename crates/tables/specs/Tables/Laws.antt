@@ -1,22 +1,20 @@
 -- Each way out of the call, what its checks tell, and that its contract fixes everything. Assumes nothing.
-use Prim.Native.Nat.{ℕ, zero, suc, _≤_, _<_}
+use Prim.Native.Nat.{ℕ, _≤_, _<_}
 use mathlib.Core.Bool.{true, false}
 use mathlib.Core.List.{List}
 use mathlib.Core.Path.{_≡_, refl, sym, ap, _∙_}
-use mathlib.Core.Logic.{⊎-elim}
-use native.Mathlib.Nat.{le-refl, not-suc-le-zero}
+use native.Mathlib.Nat.{le-refl}
 use native.Mathlib.Omega.{arith}
-use borrow.Author.Tests.{eqb-true, leb-true, ltb-true}
-use lib.Dec.{ltb}
+use borrow.Author.Tests.{eqb-true, leb-true}
 use lib.ListN.{length, getD, replicate, length-replicate, getD-replicate}
 use lib.Seq.{ext-getD}
 use lib.Ieee.{Float, nan}
 use Rattle.injections.specs.declared.Injections.{Injections}
 use Rattle.injections.specs.Injections.{Ybus, injectionsOf}
-use Rattle.real.specs.Tests.{both-l, both-r, same-or-below}
+use Rattle.real.specs.Tests.{both-l, both-r}
 use Rattle.real.specs.Literals.{nought}
 use Rattle.layout.specs.Table.{stores}
-use Rattle.layout.specs.Table.Laws.{stores-length, stores-at}
+use Rattle.layout.specs.Table.Laws.{stores-length, stores-at, all-below}
 use Rattle.qlim.specs.declared.Settled.{Settled}
 use Rattle.pf_ac.specs.declared.AcPf.{AcPf}
 use Rattle.pf_ac.specs.declared.AcPf.the-variants as AcPf
@@ -24,7 +22,7 @@ use Rattle.pf_ac.specs.Search.{searched}
 use Rattle.pf_ac.specs.Network.{Network, buses, tripletsOf, Ready, acPfOf}
 use Rattle.tables.specs.declared.Outcome.{Outcome}
 use Rattle.tables.specs.declared.Outcome.the-variants.{Solved, Counts, Room, Bus, NotConverged}
-use Rattle.tables.specs.Tables.{paperOf, Answer, Outs, outs, allBelow, counted, roomy, numbered, writtenOf, zeros, answer, ranOf, solveOf}
+use Rattle.tables.specs.Tables.{paperOf, Answer, Outs, outs, counted, roomy, numbered, writtenOf, zeros, answer, ranOf, solveOf}
 
 -- ---- the ways out
 
@@ -66,13 +64,6 @@ zeros-are w =
 
 -- ---- what the checks tell
 
-below-at : (k n : ℕ) (l : List ℕ) → allBelow k n l ≡ true → (i : ℕ) → i < k → getD l i 0 < n
-unfolding allBelow
-below-at zero n l h i p = absurd (not-suc-le-zero p)
-below-at (suc k) n l h i p =
-    ⊎-elim (λ e. rw e (ltb-true (getD l k 0) n (both-r (allBelow k n l) _ h))) (λ q. below-at k n l (both-l _ (ltb (getD l k 0) n) h) i q)
-    (same-or-below p)
-
 pub ready : (t : Network) → counted t ≡ true → numbered t ≡ true → Ready t
 unfolding counted numbered
 ready t h k =
@@ -93,10 +84,10 @@ ready t h k =
     let few = leb-true _ _ (both-l _ _ bus) in
     let paired = eqb-true _ _ (both-r _ _ (both-l _ _ h₃)) in
     let col : length (t .y-col) ≡ length (t .y-row) = eqb-true _ _ (both-l _ _ trip) in
-    let rows = below-at _ _ _ (both-l _ _ k₄) in
-    let cols = below-at _ _ _ (both-r _ _ k₄) in
-    let froms = below-at _ _ _ (both-l _ _ k₂) in
-    let tos = below-at _ _ _ (both-l _ _ k₃) in
+    let rows = all-below _ _ (both-l _ _ k₄) in
+    let cols = all-below _ _ (both-r _ _ k₄) in
+    let froms = all-below _ _ (both-l _ _ k₂) in
+    let tos = all-below _ _ (both-l _ _ k₃) in
     record {
       few = few;
       set-size = eqb-true _ _ (both-l _ _ three);
@@ -109,8 +100,8 @@ ready t h k =
       slack-size = eqb-true _ _ (both-r _ _ (both-l _ _ h₁));
       min-size = eqb-true _ _ (both-l _ _ gens);
       max-size = eqb-true _ _ (both-r _ _ gens);
-      slacks-below = below-at _ _ _ (both-l _ _ k);
-      gens-below = below-at _ _ _ (both-l _ _ k₁);
+      slacks-below = all-below _ _ (both-l _ _ k);
+      gens-below = all-below _ _ (both-l _ _ k₁);
       ends = record { paired = sym paired; below = λ i p. (froms i p, tos i (omega arith)) };
       triplets = record {
         few = few;
@@ -184,7 +175,8 @@ solve-one t o w r s o₁ o₂ w₁ w₂ h k =
     (paper-one r s (ap (λ (a : Answer). a .paper) e), ap (λ (a : Answer). a .columns) e, ap (λ (a : Answer). a .space) e)
 
 -- the five columns, each by itself
-pub written-is : (n : ℕ) (y : Ybus) (best : Settled) (o : Outs) (found : Injections) → found ≡ injectionsOf n y (best .point .vm) (best .point .va) → (vm va p q : List Float) (kinds : List ℕ)
+pub written-is : (n : ℕ) (y : Ybus) (best : Settled) (o : Outs) (found : Injections) → found ≡ injectionsOf n y (best .point .vm) (best .point .va)
+    → (vm va p q : List Float) (kinds : List ℕ)
     → vm ≡ stores (λ b. getD (best .point .vm) b nan) n (o .vm) → va ≡ stores (λ b. getD (best .point .va) b nan) n (o .va)
     → p ≡ stores (λ b. getD (found .power .p) b nan) n (o .p) → q ≡ stores (λ b. getD (found .power .q) b nan) n (o .q)
     → kinds ≡ stores (λ b. getD (best .letters) b 0) n (o .kinds) → outs vm va p q kinds ≡ writtenOf n y best o

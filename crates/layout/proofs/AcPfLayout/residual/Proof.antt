@@ -20,7 +20,12 @@ loop-holds c = search needs
 
 loop-again : tie.Need-loop-again Inv-loop μ-loop
 unfolding residualTo
-loop-again c = let m2 = c .before .before .before in let p1 = m2 .before .before in let m1 = p1 .before .before .before in let l = m1 .before .before .before .before .loop in (l .inv .0, omega arith, rw (add-one, ← l .inv .2, ← m1 .missing-power .ensures, ← p1 .put .ensures, ← m2 .missing-power2 .ensures) (c .put2 .ensures))
+loop-again c =
+    let m2 = c .before .before .before in
+    let p1 = m2 .before .before in
+    let m1 = p1 .before .before .before in
+    let l = m1 .before .before .before .before .loop in
+    (l .inv .0, omega arith, rw (add-one, ← l .inv .2, ← m1 .missing-power .ensures, ← p1 .put .ensures, ← m2 .missing-power2 .ensures) (c .put2 .ensures))
 
 returns : tie.Need-returns Inv-loop μ-loop
 returns c =
@@ -30,4 +35,33 @@ returns c =
     l .inv .2 ∙ ap (λ (k : ℕ). residualTo k (a .t1) (powers (a .pd .now) (a .qd .now) (a .pg .now) (a .t5) (a .t6) (a .t7))) e
 
 pub residual-spec : {M : Type 1} → statement M
-residual-spec = tie.close (tie.spec Inv-loop μ-loop loop-holds (λ c. search needs) (λ c. search needs) (λ c. search needs) (λ c. search needs) (λ c. search needs) (λ c. search needs) (λ c κs. search needs) (λ c. search needs) (λ c. search needs) (λ c κs. search needs) (λ c. search needs) (λ c. search needs) (λ c. search needs) (λ c. search needs) (λ c. search needs) (λ c. search needs) (λ c κs. search needs) (λ c. search needs) (λ c. search needs) (λ c κs. search needs) (λ c. search needs) (λ c. search needs) loop-again returns)
+residual-spec =
+    tie.close
+    (tie.spec
+    Inv-loop
+    μ-loop
+    loop-holds
+    (λ c. search needs)
+    (λ c. search needs)
+    (λ c. search needs)
+    (λ c. search needs)
+    (λ c. search needs)
+    (λ c. search needs)
+    (λ c κs. search needs)
+    (λ c. search needs)
+    (λ c. search needs)
+    (λ c κs. search needs)
+    (λ c. search needs)
+    (λ c. search needs)
+    (λ c. search needs)
+    (λ c. search needs)
+    (λ c. search needs)
+    (λ c. search needs)
+    (λ c κs. search needs)
+    (λ c. search needs)
+    (λ c. search needs)
+    (λ c κs. search needs)
+    (λ c. search needs)
+    (λ c. search needs)
+    loop-again
+    returns)
