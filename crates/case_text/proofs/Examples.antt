@@ -6,8 +6,9 @@ use mathlib.Core.List.{List, [], _∷_}
 use Prim.Native.Nat.{ℕ}
 use lib.ListN.{set}
 use lib.Seq.{sets}
-use lib.Ieee.{Float, nan, binary64, ofBits, div, neg, ofInt}
+use lib.Ieee.{Float, nan, ofBits, div, neg, ofInt}
 use Rattle.real.specs.Paper.{given, refused, whole}
+use Rattle.real.specs.Literals.{lit, nought, one}
 use Rattle.fields.specs.Cut.{upto, past, has, pieces}
 use Rattle.fields.specs.Digits.{digits, number}
 use Rattle.fields.specs.Real.{amountOf}
@@ -66,17 +67,11 @@ bytes-Y : bytesOf Section.Y listing 35 ≡ line-Y
 unfolding bytesOf digits number
 bytes-Y = refl
 
-abbrev nought : Float
-nought = ofBits binary64 0
-
-abbrev one : Float
-one = ofBits binary64 0x3ff0_0000_0000_0000
-
 abbrev two : Float
-two = ofBits binary64 0x4000_0000_0000_0000
+two = lit 0x4000_0000_0000_0000
 
 abbrev minus-eight : Float
-minus-eight = ofBits binary64 0xc020_0000_0000_0000
+minus-eight = lit 0xc020_0000_0000_0000
 
 -- one bus, one slack row and one triplet, in the first places of the columns, whatever stood there
 abbrev pub listing-columns : Columns → Columns
@@ -134,6 +129,6 @@ minus-text =
 pub minus-read : (i j : ℕ) (u v : Float)
     → readOf minus-text (columns [] [] [] [] [] [] [] [] (i ∷ j ∷ []) (u ∷ v ∷ []) [] [] [] [] [] [] [] [] [])
     ≡ outcome (given (record { start = Start.Flat; buses = 0; slacks = 2; generators = 0; branches = 0; triplets = 0 }))
-    (columns [] [] [] [] [] [] [] [] (0 ∷ 1 ∷ []) (ofBits binary64 0x8000000000000000 ∷ ofBits binary64 0xbfd0000000000000 ∷ []) [] [] [] [] [] [] [] [] [])
+    (columns [] [] [] [] [] [] [] [] (0 ∷ 1 ∷ []) (lit 0x8000_0000_0000_0000 ∷ lit 0xbfd0_0000_0000_0000 ∷ []) [] [] [] [] [] [] [] [] [])
 unfolding readOf writtenOf bytesOf partOf bodyOf trailerOf risingOf knownOf sectionOf ended fieldsOf allSome pieces upto past has digits number amountOf ofBits div neg ofInt
 minus-read i j u v = refl

@@ -2,18 +2,16 @@
 -- then writes the definition's values; otherwise the columns are as they were. Assumes nothing.
 use mathlib.Core.Path.{_≡_, refl, sym, ap, _∙_}
 use mathlib.Core.Bool.{true, cond}
-use mathlib.Core.Logic.{_↔_, ⊎-elim}
+use mathlib.Core.Logic.{_↔_}
 use mathlib.Core.List.{List}
 use Prim.Native.Nat.{ℕ, _-_}
-use native.Mathlib.Omega.{arith}
 use lib.Dec.{eqb}
 use lib.ListN.{length}
-use Rattle.real.specs.Tests.{decided}
-use Rattle.real.specs.Paper.{Paper, given, refused, placeIn}
+use Rattle.real.specs.Paper.{Paper, given, refused, placeIn, onGiven}
 use Rattle.case_text.specs.Text.{textOf}
-use Rattle.case_text.specs.Answer.{paperOf, Columns, roomOf, fitsOf, withRoom, judgedOf, writtenOf, Outcome, outcome, settledOf, readOf}
+use Rattle.case_text.specs.Answer.{paperOf, Columns, roomOf, fitsOf, judgedOf, writtenOf, Outcome, outcome, settledOf, readOf}
+use Rattle.case_text.specs.Answer.Laws.{with-room}
 use Rattle.case_text.specs.declared.Tables.{Tables}
-use Rattle.case_text.specs.declared.Room.{Room}
 use Rattle.case_text.specs.declared.Reading.{Reading}
 use Rattle.case_text.specs.declared.Reading.the-variants as Reading
 
@@ -59,45 +57,15 @@ same-outcome s old r₁ r₂ new₁ new₂ h k = let e = h ∙ sym k in (paper-t
 
 -- ---- what it accepts, and what it leaves
 
-settled-answer : (s : List ℕ) (v : Reading) (old : Columns) → answer (settledOf s v old) ≡ paperOf v
-settled-answer s (Reading.Good c) old = refl
-settled-answer s (Reading.Length at) old = refl
-settled-answer s (Reading.Trailer at) old = refl
-settled-answer s (Reading.Byte at) old = refl
-settled-answer s (Reading.Rows at) old = refl
-settled-answer s (Reading.Form at) old = refl
-settled-answer s (Reading.Field at) old = refl
-settled-answer s Reading.Short old = refl
-
-settled-left : (s : List ℕ) (v : Reading) (old : Columns) → ((c : Tables) → v ≡ Reading.Good c → ⊥) → left (settledOf s v old) ≡ old
-settled-left s (Reading.Good c) old h = absurd (h c refl)
-settled-left s (Reading.Length at) old h = refl
-settled-left s (Reading.Trailer at) old h = refl
-settled-left s (Reading.Byte at) old h = refl
-settled-left s (Reading.Rows at) old h = refl
-settled-left s (Reading.Form at) old h = refl
-settled-left s (Reading.Field at) old h = refl
-settled-left s Reading.Short old h = refl
-
-with-room : (v : Reading) (m : Room) (c : Tables) → withRoom v m ≡ Reading.Good c → (v ≡ Reading.Good c) × (fitsOf c m ≡ true)
-with-room (Reading.Good d) m c h =
-    ⊎-elim
-    (λ q. let e : Reading.Good d ≡ Reading.Good c = rw q at h in let z : d ≡ c = cc in (e, rw z at q))
-    (λ q. let e : Reading.Short ≡ Reading.Good c = rw q at h in let z : _≡_ {A = ℕ} 0 1 = cc in absurd (omega arith))
-    (decided (fitsOf d m))
-with-room (Reading.Length at) m c h = let z : _≡_ {A = ℕ} 0 1 = cc in absurd (omega arith)
-with-room (Reading.Trailer at) m c h = let z : _≡_ {A = ℕ} 0 1 = cc in absurd (omega arith)
-with-room (Reading.Byte at) m c h = let z : _≡_ {A = ℕ} 0 1 = cc in absurd (omega arith)
-with-room (Reading.Rows at) m c h = let z : _≡_ {A = ℕ} 0 1 = cc in absurd (omega arith)
-with-room (Reading.Form at) m c h = let z : _≡_ {A = ℕ} 0 1 = cc in absurd (omega arith)
-with-room (Reading.Field at) m c h = let z : _≡_ {A = ℕ} 0 1 = cc in absurd (omega arith)
-with-room Reading.Short m c h = let z : _≡_ {A = ℕ} 0 1 = cc in absurd (omega arith)
+left-alone : (p : Paper Tables) (new old : Columns) → ((c : Tables) → p ≡ given c → ⊥) → onGiven p (λ c. new) old ≡ old
+left-alone (given c) new old h = absurd (h c refl)
+left-alone (refused number values) new old h = refl
 
 module _ (s : List ℕ) (old new : Columns) (r : Reading) (h : outcome (paperOf r) new ≡ readOf s old) where
   -- the answer is the definition's
   pub answer-is : r ≡ judgedOf s (roomOf old)
   unfolding readOf
-  answer-is = paper-tells r (judgedOf s (roomOf old)) (ap answer h ∙ settled-answer s (judgedOf s (roomOf old)) old)
+  answer-is = paper-tells r (judgedOf s (roomOf old)) (ap answer h)
 
   -- accepted if and only if the definition accepts the text and its rows fit
   pub accepts : (c : Tables) → (r ≡ Reading.Good c) ↔ ((textOf s ≡ Reading.Good c) × (fitsOf c (roomOf old) ≡ true))
@@ -111,4 +79,4 @@ module _ (s : List ℕ) (old new : Columns) (r : Reading) (h : outcome (paperOf 
   -- a refusal leaves every column untouched
   pub refusal-writes-nothing : ((c : Tables) → r ≡ Reading.Good c → ⊥) → new ≡ old
   unfolding readOf
-  refusal-writes-nothing k = ap left h ∙ ap (λ (v : Reading). left (settledOf s v old)) (sym answer-is) ∙ settled-left s r old k
+  refusal-writes-nothing k = ap left h ∙ ap (λ (v : Reading). left (settledOf s v old)) (sym answer-is) ∙ left-alone (paperOf r) _ old (λ c e. k c (paper-tells r (Reading.Good c) e))

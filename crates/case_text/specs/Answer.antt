@@ -6,7 +6,7 @@ use mathlib.Core.List.{List, [], _∷_}
 use lib.Dec.{leb}
 use lib.ListN.{length}
 use lib.Ieee.{Float}
-use Rattle.real.specs.Paper.{Paper, given, refused, whole}
+use Rattle.real.specs.Paper.{Paper, given, refused, whole, onGiven}
 use Rattle.rows.specs.declared.Section.the-variants as Section
 use Rattle.columns.specs.Columns.{filled, realAt, numberAt, kindAt}
 use Rattle.trailer.specs.Trailer.{bytesOf}
@@ -48,14 +48,7 @@ fitsOf c m =
 
 -- refusal 9: "a reader column shorter than its table's rows"
 abbrev pub withRoom : Reading → Room → Reading
-withRoom (Reading.Good c) m = cond (fitsOf c m) (Reading.Good c) Reading.Short
-withRoom (Reading.Length at) m = Reading.Length at
-withRoom (Reading.Trailer at) m = Reading.Trailer at
-withRoom (Reading.Byte at) m = Reading.Byte at
-withRoom (Reading.Rows at) m = Reading.Rows at
-withRoom (Reading.Form at) m = Reading.Form at
-withRoom (Reading.Field at) m = Reading.Field at
-withRoom Reading.Short m = Reading.Short
+withRoom v m = onGiven (paperOf v) (λ c. cond (fitsOf c m) v Reading.Short) v
 
 abbrev pub judgedOf : List ℕ → Room → Reading
 judgedOf s m = withRoom (textOf s) m
@@ -78,14 +71,7 @@ pub data Outcome : Type 0 where
 
 -- "A reader refusal leaves its output columns untouched."
 abbrev pub settledOf : List ℕ → Reading → Columns → Outcome
-settledOf s (Reading.Good c) old = outcome (given c) (writtenOf s (length s - 38) old)
-settledOf s (Reading.Length at) old = outcome (paperOf (Reading.Length at)) old
-settledOf s (Reading.Trailer at) old = outcome (paperOf (Reading.Trailer at)) old
-settledOf s (Reading.Byte at) old = outcome (paperOf (Reading.Byte at)) old
-settledOf s (Reading.Rows at) old = outcome (paperOf (Reading.Rows at)) old
-settledOf s (Reading.Form at) old = outcome (paperOf (Reading.Form at)) old
-settledOf s (Reading.Field at) old = outcome (paperOf (Reading.Field at)) old
-settledOf s Reading.Short old = outcome (paperOf Reading.Short) old
+settledOf s v old = outcome (paperOf v) (onGiven (paperOf v) (λ c. writtenOf s (length s - 38) old) old)
 
 -- what the reader answers and leaves, of the text and the columns as they were
 unfoldable pub readOf : List ℕ → Columns → Outcome

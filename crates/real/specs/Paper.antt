@@ -18,3 +18,8 @@ placeIn (real x ∷ vs) = 0
 pub data Paper (A : Type 0) : Type 0 where
   given : A → Paper A
   refused : ℕ → List Value → Paper A
+
+-- f of what is given, z of a refusal
+abbrev pub onGiven : {A B : Type 0} → Paper A → (A → B) → B → B
+onGiven (given a) f z = f a
+onGiven (refused number values) f z = z

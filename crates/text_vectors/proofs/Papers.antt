@@ -1,5 +1,5 @@
 -- An answer is the one told exactly where its number is, and with it the place or the tables. Assumes nothing.
-use mathlib.Core.Path.{_≡_, refl, sym, ap, _∙_}
+use mathlib.Core.Path.{_≡_, sym, ap, _∙_}
 use mathlib.Core.Bool.{Bool, true, false, not, _&&_}
 use mathlib.Core.Logic.{⊎-elim}
 use Prim.Native.Nat.{ℕ, _<_}
@@ -14,10 +14,9 @@ use Rattle.trailer.specs.Trailer.{modeOf}
 use Rattle.case_text.specs.Answer.{paperOf}
 use Rattle.case_text.specs.declared.Tables.{Tables}
 use Rattle.case_text.specs.declared.Reading.{Reading}
-use Rattle.case_text.specs.declared.Reading.the-variants as Reading
 use Rattle.trailer.specs.declared.Start.{Start}
 use Rattle.trailer.specs.declared.Start.the-variants as Start
-use Rattle.case_text.proofs.Refusals.{Refused, not-refused}
+use Rattle.case_text.proofs.Refusals.{Refused, refused-paper}
 use Rattle.text_vectors.specs.Told.{numberIn, placeOf, refusal, answer, rowsTold, tablesTold, paperTold}
 use Rattle.text_vectors.proofs.Telling.{equal, both}
 
@@ -38,15 +37,12 @@ case-told n = (λ e. rw (not-true (eqb n 70) e), λ e. rw (sym (flat-mode n) ∙
 
 -- ---- a refusal
 
-number-refusal : (n at : ℕ) → numberIn (refusal n at) ≡ n
-number-refusal n at = ⊎-elim (λ e. rw e (sym (eqb-true n 9 e))) (λ e. rw e) (decided (eqb n 9))
-
 number-answer : (n at : ℕ) (c : Tables) → numberIn (answer n at c) ≡ n
-number-answer n at c = ⊎-elim (λ e. rw e (sym (eqb-true n 0 e))) (λ e. rw e (number-refusal n at)) (decided (eqb n 0))
+number-answer n at c = ⊎-elim (λ e. rw e (sym (eqb-true n 0 e))) (λ e. rw e) (decided (eqb n 0))
 
 module _ (n at m p : ℕ) (c : Tables) where
   pub same-number : refusal n at ≡ answer m p c → n ≡ m
-  same-number e = sym (number-refusal n at) ∙ ap numberIn e ∙ number-answer m p c
+  same-number e = ap numberIn e ∙ number-answer m p c
 
   pub nine-told : n ≡ m → n ≡ 9 → refusal n at ≡ answer m p c
   nine-told e k = rw (← e, k)
@@ -56,24 +52,10 @@ module _ (n at m p : ℕ) (c : Tables) where
       rw (← e, ne-eqb n 0 (λ z. omega arith), ne-eqb n 9 k) (λ i. rw (eqb-true at p i), λ i. eq-eqb at p (ap placeOf i))
 
 pub refusal-paper : (v : Reading) → Refused v → refusal (numberIn (paperOf v)) (placeOf (paperOf v)) ≡ paperOf v
-refusal-paper (Reading.Good c) h = not-refused c h
-refusal-paper (Reading.Length at) h = refl
-refusal-paper (Reading.Trailer at) h = refl
-refusal-paper (Reading.Byte at) h = refl
-refusal-paper (Reading.Rows at) h = refl
-refusal-paper (Reading.Form at) h = refl
-refusal-paper (Reading.Field at) h = refl
-refusal-paper Reading.Short h = refl
+refusal-paper v h = let t = refused-paper v h in rw (t .3) (⊎-elim (λ q. rw q) (λ q. rw q) (decided (eqb (t .0) 9)))
 
 pub refusal-number : (v : Reading) → Refused v → 0 < numberIn (paperOf v)
-refusal-number (Reading.Good c) h = not-refused c h
-refusal-number (Reading.Length at) h = omega arith
-refusal-number (Reading.Trailer at) h = omega arith
-refusal-number (Reading.Byte at) h = omega arith
-refusal-number (Reading.Rows at) h = omega arith
-refusal-number (Reading.Form at) h = omega arith
-refusal-number (Reading.Field at) h = omega arith
-refusal-number Reading.Short h = omega arith
+refusal-number v h = let t = refused-paper v h in rw (t .3) (t .2)
 
 -- ---- a good answer
 

@@ -24,7 +24,7 @@ placeOf (refused n values) = placeIn values
 
 -- the refusal of a number; 9 has no place
 abbrev pub refusal : ℕ → ℕ → Paper Tables
-refusal n at = cond (eqb n 9) (refused 9 []) (refused n (whole at ∷ []))
+refusal n at = refused n (cond (eqb n 9) [] (whole at ∷ []))
 
 -- the answer of a number: 0 stands for a good one
 abbrev pub answer : ℕ → ℕ → Tables → Paper Tables

@@ -75,8 +75,7 @@ found : (c : tie.After-section-places) → Found c
 found c =
     let t = c .before in
     let j = judged-of t in
-    placed (start-of j .args .text .now) (roomOf (old (start-of j))) (t .enum-told .given .0 .0) (c .section-places .result)
-    (rw (← room-is j) (sym (j .judge .ensures) ∙ t .enum-told .given .1)) (c .section-places .ensures)
+    rw (room-is j) at (placed (start-of j .args .text .now) (room j) (t .enum-told .given .0 .0) (c .section-places .result) (sym (j .judge .ensures) ∙ t .enum-told .given .1) (c .section-places .ensures))
 
 -- ---- the needs
 

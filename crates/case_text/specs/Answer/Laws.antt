@@ -1,6 +1,6 @@
 -- Where the sections of an answered text lie, that its rows fit, and what the columns then are. Assumes nothing.
-use mathlib.Core.Path.{_≡_, refl, sym}
-use mathlib.Core.Bool.{true}
+use mathlib.Core.Path.{_≡_, refl, sym, ap}
+use mathlib.Core.Bool.{true, cond}
 use mathlib.Core.Logic.{⊎-elim}
 use mathlib.Core.List.{List}
 use Prim.Native.Nat.{ℕ, _-_, _≤_, min}
@@ -11,6 +11,7 @@ use lib.ListN.{length}
 use lib.Seq.{slice}
 use borrow.Author.Tests.{leb-true}
 use Rattle.real.specs.Tests.{decided, and-left, and-right}
+use Rattle.real.specs.Paper.{Paper, given, refused, onGiven}
 use Rattle.rows.specs.Asked.{sizeOf}
 use Rattle.rows.specs.Printed.Laws.{section-rows, section-most}
 use Rattle.rows.specs.declared.Section.{Section}
@@ -20,7 +21,7 @@ use Rattle.columns.specs.Columns.{rowCount}
 use Rattle.trailer.specs.Trailer.{startOf, bytesOf, placesOf}
 use Rattle.trailer.specs.Trailer.Laws.{within}
 use Rattle.case_text.specs.Text.{partOf, textOf}
-use Rattle.case_text.specs.Text.Laws.{Accepted, Where, text-sound}
+use Rattle.case_text.specs.Text.Laws.{Accepted, accepted-has}
 use Rattle.case_text.specs.Answer.{Columns, columns, roomOf, fitsOf, withRoom, judgedOf, filledFrom, writtenOf, outcome, paperOf, settledOf, readOf}
 use Rattle.case_text.specs.declared.Tables.{Tables}
 use Rattle.case_text.specs.declared.Room.{Room}
@@ -34,18 +35,20 @@ pub record Fitting (s : List ℕ) (m : Room) (c : Tables) : Type 0 where
   pub accepted : Accepted s (length s - 38) c
   pub fits : fitsOf c m ≡ true
 
-room-sound : (s : List ℕ) (m : Room) (v : Reading) → Where (Accepted s (length s - 38)) ⊥ v → Where (Fitting s m) Unit (withRoom v m)
-room-sound s m (Reading.Good c) h = ⊎-elim (λ q. rw q (record { accepted = h; fits = q })) (λ q. rw q tt) (decided (fitsOf c m))
-room-sound s m (Reading.Length at) h = tt
-room-sound s m (Reading.Trailer at) h = tt
-room-sound s m (Reading.Byte at) h = tt
-room-sound s m (Reading.Rows at) h = tt
-room-sound s m (Reading.Form at) h = tt
-room-sound s m (Reading.Field at) h = tt
-room-sound s m Reading.Short h = tt
+-- the text is good and its rows fit, where the answer is good
+pub with-room : (v : Reading) (m : Room) (c : Tables) → withRoom v m ≡ Reading.Good c → (v ≡ Reading.Good c) × (fitsOf c m ≡ true)
+with-room v m c h = go (paperOf v) refl h
+  where
+    go : (p : Paper Tables) → paperOf v ≡ p → onGiven p (λ d. cond (fitsOf d m) v Reading.Short) v ≡ Reading.Good c → (v ≡ Reading.Good c) × (fitsOf c m ≡ true)
+    go (given d) e h =
+        ⊎-elim
+        (λ q. let g : v ≡ Reading.Good c = rw q at h in let i : d ≡ c = cc (ap paperOf g) in (g, rw i at q))
+        (λ q. let g : Reading.Short ≡ Reading.Good c = rw q at h in let z : _≡_ {A = ℕ} 0 1 = cc in absurd (omega arith))
+        (decided (fitsOf d m))
+    go (refused number values) e g = let z : _≡_ {A = ℕ} 0 1 = cc (ap paperOf g) in absurd (omega arith)
 
 pub fitting : (s : List ℕ) (m : Room) (c : Tables) → judgedOf s m ≡ Reading.Good c → Fitting s m c
-fitting s m c h = rw h at (room-sound s m (textOf s) (text-sound s))
+fitting s m c h = let e = with-room (textOf s) m c h in record { accepted = accepted-has s c (e .0); fits = e .1 }
 
 -- ---- the sections' places, and that each table's rows fit its columns
 

@@ -1,20 +1,22 @@
 -- What an accepted text has: each check's answer on the way. Assumes nothing.
 use mathlib.Core.Path.{_≡_, refl}
-use mathlib.Core.Bool.{true, cond}
+use mathlib.Core.Bool.{true, false, true≢false, cond}
 use mathlib.Core.Logic.{⊎-elim}
 use mathlib.Core.List.{List}
 use Prim.Native.Nat.{ℕ, _-_, _≤_}
-use lib.Dec.{ltb}
+use lib.Dec.{eqb, ltb}
 use lib.ListN.{length, getD}
 use lib.Seq.{slice}
 use borrow.Author.Tests.{ltb-false}
 use Rattle.real.specs.Tests.{decided}
+use Rattle.real.specs.Paper.{Paper, given, refused}
 use Rattle.rows.specs.declared.Section.the-variants as Section
 use Rattle.rows.specs.declared.Check.{Check}
 use Rattle.rows.specs.declared.Check.the-variants as Check
 use Rattle.case_text.specs.Alphabet.{knownOf}
 use Rattle.trailer.specs.Trailer.{modeOf, trailerOf}
 use Rattle.case_text.specs.Text.{partOf, thenSection, afterY, afterL, afterG, afterR, afterB, bodyOf, afterTrailer, afterLength, textOf}
+use Rattle.case_text.specs.Answer.{paperOf}
 use Rattle.case_text.specs.declared.Tables.{Tables}
 use Rattle.case_text.specs.declared.Reading.{Reading}
 use Rattle.case_text.specs.declared.Reading.the-variants as Reading
@@ -35,35 +37,23 @@ pub record Accepted (s : List ℕ) (t : ℕ) (c : Tables) : Type 0 where
   pub known : t ≤ knownOf (slice 0 t s)
   pub body : Body s t c
 
--- P of the tables, where there are any, and Z of refusal 9
-abbrev pub Where : (Tables → Type 0) → Type 0 → Reading → Type 0
-Where P Z (Reading.Good c) = P c
-Where P Z (Reading.Length at) = Unit
-Where P Z (Reading.Trailer at) = Unit
-Where P Z (Reading.Byte at) = Unit
-Where P Z (Reading.Rows at) = Unit
-Where P Z (Reading.Form at) = Unit
-Where P Z (Reading.Field at) = Unit
-Where P Z Reading.Short = Z
+-- P of the tables, where there are any; a refusal is not 9
+abbrev pub Where : (Tables → Type 0) → Paper Tables → Type 0
+Where P (given c) = P c
+Where P (refused number values) = eqb number 9 ≡ false
 
-pub on : (P Q : Tables → Type 0) (Z : Type 0) (v : Reading) → ((c : Tables) → P c → Q c) → Where P Z v → Where Q Z v
-on P Q Z (Reading.Good c) f h = f c h
-on P Q Z (Reading.Length at) f h = tt
-on P Q Z (Reading.Trailer at) f h = tt
-on P Q Z (Reading.Byte at) f h = tt
-on P Q Z (Reading.Rows at) f h = tt
-on P Q Z (Reading.Form at) f h = tt
-on P Q Z (Reading.Field at) f h = tt
-on P Q Z Reading.Short f h = h
+on : (P Q : Tables → Type 0) (p : Paper Tables) → ((c : Tables) → P c → Q c) → Where P p → Where Q p
+on P Q (given c) f h = f c h
+on P Q (refused number values) f h = h
 
-sections : (P : Tables → Type 0) (v : Check) (k : ℕ → Reading) → ((n : ℕ) → v ≡ Check.Good n → Where P ⊥ (k n)) → Where P ⊥ (thenSection v k)
+sections : (P : Tables → Type 0) (v : Check) (k : ℕ → Reading) → ((n : ℕ) → v ≡ Check.Good n → Where P (paperOf (k n))) → Where P (paperOf (thenSection v k))
 sections P (Check.Good n) k h = h n refl
-sections P (Check.Rows n) k h = tt
-sections P (Check.Form n) k h = tt
-sections P (Check.Field n) k h = tt
+sections P (Check.Rows n) k h = refl
+sections P (Check.Form n) k h = refl
+sections P (Check.Field n) k h = refl
 
 module _ (s : List ℕ) (t : ℕ) where
-  body-sound : Where (Body s t) ⊥ (bodyOf s t)
+  body-sound : Where (Body s t) (paperOf (bodyOf s t))
   unfolding bodyOf
   body-sound =
       sections (Body s t) (partOf Section.B s t) (afterB s t) (λ nb b.
@@ -74,25 +64,25 @@ module _ (s : List ℕ) (t : ℕ) where
       record { start = refl; buses = b; slacks = r; generators = g; branches = l; triplets = y })))))
 
   module _ (low : 38 ≤ length s) (high : length s ≤ 32768) where
-    known-sound : trailerOf s t ≡ true → Where (Accepted s t) ⊥ (afterTrailer s t)
+    known-sound : trailerOf s t ≡ true → Where (Accepted s t) (paperOf (afterTrailer s t))
     known-sound w =
-        ⊎-elim (λ q. rw q tt)
-        (λ q. rw q (on (Body s t) (Accepted s t) ⊥ (bodyOf s t) (λ c b. record { least = low; most = high; trailer = w; known = ltb-false (knownOf (slice 0 t s)) t q; body = b }) body-sound))
+        ⊎-elim (λ q. rw q)
+        (λ q. rw q (on (Body s t) (Accepted s t) (paperOf (bodyOf s t)) (λ c b. record { least = low; most = high; trailer = w; known = ltb-false (knownOf (slice 0 t s)) t q; body = b }) body-sound))
         (decided (ltb (knownOf (slice 0 t s)) t))
 
-    trailer-sound : Where (Accepted s t) ⊥ (afterLength s t)
-    trailer-sound = ⊎-elim (λ q. rw q (known-sound q)) (λ q. rw q tt) (decided (trailerOf s t))
+    trailer-sound : Where (Accepted s t) (paperOf (afterLength s t))
+    trailer-sound = ⊎-elim (λ q. rw q (known-sound q)) (λ q. rw q) (decided (trailerOf s t))
 
 module _ (s : List ℕ) where
-  most-sound : 38 ≤ length s → Where (Accepted s (length s - 38)) ⊥ (cond (ltb 32768 (length s)) (Reading.Length 32768) (afterLength s (length s - 38)))
-  most-sound h = ⊎-elim (λ q. rw q tt) (λ q. rw q (trailer-sound s (length s - 38) h (ltb-false 32768 (length s) q))) (decided (ltb 32768 (length s)))
+  most-sound : 38 ≤ length s → Where (Accepted s (length s - 38)) (paperOf (cond (ltb 32768 (length s)) (Reading.Length 32768) (afterLength s (length s - 38))))
+  most-sound h = ⊎-elim (λ q. rw q) (λ q. rw q (trailer-sound s (length s - 38) h (ltb-false 32768 (length s) q))) (decided (ltb 32768 (length s)))
 
-  pub text-sound : Where (Accepted s (length s - 38)) ⊥ (textOf s)
-  text-sound = ⊎-elim (λ q. rw q tt) (λ q. rw q (most-sound (ltb-false (length s) 38 q))) (decided (ltb (length s) 38))
+  pub text-sound : Where (Accepted s (length s - 38)) (paperOf (textOf s))
+  text-sound = ⊎-elim (λ q. rw q) (λ q. rw q (most-sound (ltb-false (length s) 38 q))) (decided (ltb (length s) 38))
 
   pub accepted-has : (c : Tables) → textOf s ≡ Reading.Good c → Accepted s (length s - 38) c
   accepted-has c h = rw h at text-sound
 
   -- refusal 9 is none of the text's
   pub never-short : textOf s ≡ Reading.Short → ⊥
-  never-short h = rw h at text-sound
+  never-short h = true≢false (rw h at text-sound)

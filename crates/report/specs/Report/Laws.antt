@@ -1,13 +1,13 @@
 -- What the report's parts are, and that its contract fixes everything. Assumes nothing.
 use Prim.Native.Nat.{ℕ, _-_, _≤_}
 use mathlib.Core.Path.{_≡_, refl, sym, ap, _∙_}
-use mathlib.Core.List.{List, [], _∷_}
+use mathlib.Core.List.{List, []}
 use mathlib.Core.Bool.{true, cond}
 use borrow.Author.Tests.{leb-true, le-leb, eq-eqb}
 use lib.Dec.{leb}
 use lib.ListN.{length, take, length-replicate}
 use Rattle.real.specs.Tests.{and-left, and-right, both}
-use Rattle.real.specs.Paper.{refused, whole}
+use Rattle.real.specs.Paper.{Paper, given, refused, onGiven}
 use lib.Seq.{length-take-le, length-sets}
 use lib.Ieee.{Float}
 use Rattle.case_text.specs.declared.Tables.{Tables}
@@ -24,8 +24,8 @@ use Rattle.pf_ac.specs.Network.Withheld.{Alike}
 use Rattle.tables.specs.Tables.Withheld.{solve-withheld}
 use Rattle.pf_ac.specs.Network.{acPfOf}
 use Rattle.tables.specs.Tables.{Outs, counted, roomy, numbered, Answer, answer, paperOf, ranOf, solveOf}
-use Rattle.lines.specs.Lines.{refusedOf, Wrote}
-use Rattle.report.specs.Report.{Report, startOf, networkBy, networkOf, blank, blanks, Few, Full, printedOf, answeredOf, solvedOf, readingOf, reportOf, Reported}
+use Rattle.lines.specs.Lines.{Wrote}
+use Rattle.report.specs.Report.{Report, startOf, networkBy, networkOf, blank, blanks, Few, Full, printedOf, answeredOf, solvedOf, refusalOf, readingOf, reportOf, Reported}
 
 -- a part of a column that is long enough
 pub cut : {A : Type 0} (n m : ℕ) (l : List A) → n ≤ m → length l ≡ m → n ≡ length (take n l)
@@ -60,17 +60,11 @@ module _ (s : List ℕ) (w : List Float) (r : Reading) (read : Columns) (h : Rea
 -- ---- refusals 7 and 9 are not met by a text
 
 pub reader-never-9 : (s : List ℕ) → judgedOf s (roomOf blank) ≡ textOf s
-reader-never-9 s = go (textOf s) (text-sound s)
+reader-never-9 s = go (textOf s) (Reader.paperOf (textOf s)) refl (text-sound s)
   where
-    go : (v : Reading) → Where (Accepted s (length s - 38)) ⊥ v → withRoom v (roomOf blank) ≡ v
-    go (Reading.Good c) a = let f = rows-most s _ c a in rw (le-leb (c .buses) 32 (f .0), le-leb (c .slacks) 32 (f .1), le-leb (c .generators) 32 (f .2), le-leb (c .branches) 64 (f .3), le-leb (c .triplets) 256 (f .4)) refl
-    go (Reading.Length at) a = refl
-    go (Reading.Trailer at) a = refl
-    go (Reading.Byte at) a = refl
-    go (Reading.Rows at) a = refl
-    go (Reading.Form at) a = refl
-    go (Reading.Field at) a = refl
-    go Reading.Short a = refl
+    go : (v : Reading) (p : Paper Tables) → Reader.paperOf v ≡ p → Where (Accepted s (length s - 38)) p → withRoom v (roomOf blank) ≡ v
+    go v (given c) e a = let f = rows-most s _ c a in rw (e, le-leb (c .buses) 32 (f .0), le-leb (c .slacks) 32 (f .1), le-leb (c .generators) 32 (f .2), le-leb (c .branches) 64 (f .3), le-leb (c .triplets) 256 (f .4))
+    go v (refused number values) e a = rw e
 
 counted-read : (c : Tables) (read : Columns) → Few c → Full read → counted (networkOf c read) ≡ true
 unfolding counted both
@@ -96,30 +90,19 @@ full-read s t = simp (length-sets, length-replicate) (refl, refl, refl, refl, re
 
 -- what is printed of a text: its refusal, or the answer of its tables, which is refused 8, refused 10 or solved
 abbrev pub textReport : List ℕ → List Float → Reading → Report
-textReport s w (Reading.Good c) =
-    let t = networkOf c (writtenOf s (length s - 38) blank) in
-    answeredOf (c .buses) (cond (numbered t) (ranOf t blanks w (acPfOf t w)) (answer (refused 8 []) blanks w))
-textReport s w (Reading.Length at) = record { bytes = refusedOf 1 (whole at ∷ []); space = w }
-textReport s w (Reading.Trailer at) = record { bytes = refusedOf 2 (whole at ∷ []); space = w }
-textReport s w (Reading.Byte at) = record { bytes = refusedOf 3 (whole at ∷ []); space = w }
-textReport s w (Reading.Rows at) = record { bytes = refusedOf 6 (whole at ∷ []); space = w }
-textReport s w (Reading.Form at) = record { bytes = refusedOf 4 (whole at ∷ []); space = w }
-textReport s w (Reading.Field at) = record { bytes = refusedOf 5 (whole at ∷ []); space = w }
-textReport s w Reading.Short = record { bytes = refusedOf 9 []; space = w }
+textReport s w v =
+    onGiven (Reader.paperOf v)
+    (λ c. let t = networkOf c (writtenOf s (length s - 38) blank) in
+    answeredOf (c .buses) (cond (numbered t) (ranOf t blanks w (acPfOf t w)) (answer (refused 8 []) blanks w)))
+    (record { bytes = refusalOf v; space = w })
 
 pub report-never-7-9 : (s : List ℕ) (w : List Float) → leb 6144 (length w) ≡ true → (reportOf s w ≡ textReport s w (textOf s)) × (textOf s ≡ Reading.Short → ⊥)
 unfolding reportOf readOf solvedOf
-report-never-7-9 s w h = (rw (reader-never-9 s) (go (textOf s) (text-sound s)), never-short s)
+report-never-7-9 s w h = (rw (reader-never-9 s) (go (textOf s) (Reader.paperOf (textOf s)) refl (text-sound s)), never-short s)
   where
-    go : (v : Reading) → Where (Accepted s (length s - 38)) ⊥ v → readingOf (settledOf s v blank) w ≡ textReport s w v
-    go (Reading.Good c) a = let read = writtenOf s (length s - 38) blank in ap (answeredOf (c .buses)) (solve-never-7-9 c read w (rows-most s _ c a) (full-read s (length s - 38)) h)
-    go (Reading.Length at) a = refl
-    go (Reading.Trailer at) a = refl
-    go (Reading.Byte at) a = refl
-    go (Reading.Rows at) a = refl
-    go (Reading.Form at) a = refl
-    go (Reading.Field at) a = refl
-    go Reading.Short a = refl
+    go : (v : Reading) (p : Paper Tables) → Reader.paperOf v ≡ p → Where (Accepted s (length s - 38)) p → readingOf (settledOf s v blank) w ≡ textReport s w v
+    go v (given c) e a = let read = writtenOf s (length s - 38) blank in rw e (ap (answeredOf (c .buses)) (solve-never-7-9 c read w (rows-most s _ c a) (full-read s (length s - 38)) h))
+    go v (refused number values) e a = rw e
 
 -- ---- the contract fixes everything
 
