@@ -20,9 +20,27 @@ Inv-loop n y-row y-col y-re y-im w₀ layout unit v-bus i-bus t₀ t-end w t =
 abbrev μ-loop : tie.MeasureT-loop
 μ-loop n y-row y-col y-re y-im w₀ layout unit v-bus i-bus t₀ t-end w t = t-end - t
 
+-- ---- the places on the way, by name
+
+abbrev start-of : tie.In-loop Inv-loop μ-loop → tie.Start Inv-loop μ-loop
+start-of c = c .before .before .before .before .before .before .before .before .before .before
+
+-- a triplet's turn, from where its admittance is read
+abbrev turn-of : tie.After-new Inv-loop μ-loop → tie.In-loop Inv-loop μ-loop
+turn-of c = c .before .before .before .before .before .before .before .before .before
+
+abbrev new-of : tie.After-enter-all-arg Inv-loop μ-loop → tie.After-new Inv-loop μ-loop
+new-of c = c .before .before .before .before .before .before .before .before .before .before .before .before .before .before
+
+-- and from its end
+abbrev last-of : tie.After-slice-known2 Inv-loop μ-loop → tie.In-loop Inv-loop μ-loop
+last-of c = turn-of (new-of (c .before .before .before))
+
 -- the next triplet has a number
 fits : (c : tie.In-loop Inv-loop μ-loop) → c .before .loop .t + 1 < 0x1_0000_0000_0000_0000
 fits c = omega arith
+
+-- ---- the needs
 
 voltages-requires : tie.Need-voltages-requires Inv-loop μ-loop
 voltages-requires c κs = c .before .before .before .before .before .pre .0 .few
@@ -31,37 +49,50 @@ loop-holds : tie.Need-loop-holds Inv-loop μ-loop
 loop-holds c = (omega arith, refl, refl, λ va h. sym (jacobian-end _ va _ _ _))
 
 bus-requires : tie.Need-bus-requires Inv-loop μ-loop
-bus-requires c κs = let good = c .before .before .before .before .before .before .before .before .before .before .pre .0 in (omega arith, good .few, good .rows-below)
+bus-requires c κs = let good = start-of c .pre .0 in (omega arith, good .few, good .rows-below)
 
 bus-requires-2 : tie.Need-bus-requires-2 Inv-loop μ-loop
-bus-requires-2 c κs = let good = c .before .before .before .before .before .before .before .before .before .before .before .pre .0 in (let e = good .cols in omega arith, good .few, good .cols-below)
+bus-requires-2 c κs = let good = start-of (c .before) .pre .0 in (let e = good .cols in omega arith, good .few, good .cols-below)
 
 enter-all-requires : tie.Need-enter-all-requires Inv-loop μ-loop
-enter-all-requires c κs = omega (arith, c .before .before .before .before .before .before .before .before .before .before .before .before .before .before .before .before .before .before .before .before .before .before .before .before .loop .inv .2, c .before .before .before .before .before .before .before .before .before .before .before .before .before .before .before .before .before .before .before .before .before .before .before .before .before .before .before .before .before .before .before .before .before .pre .1)
+enter-all-requires c κs = let s = turn-of (new-of c) in omega (arith, s .before .loop .inv .2, start-of s .pre .1)
 
 add-t : tie.Need-add-t Inv-loop μ-loop
-add-t c = omega (arith, fits (c .before .before .before .before .before .before .before .before .before .before .before .before .before .before .before .before .before .before .before .before .before .before .before .before .before .before))
+add-t c = omega (arith, fits (last-of c))
 
 loop-less : tie.Need-loop-less Inv-loop μ-loop
-loop-less c = let s = c .before .before .before .before .before .before .before .before .before .before .before .before .before .before .before .before .before .before .before .before .before .before .before .before .before .before in omega arith
+loop-less c = let s = last-of c in omega arith
 
 loop-again : tie.Need-loop-again Inv-loop μ-loop
 loop-again c =
-    let all = c .before .before .enter-all in
-    let d = c .before .before .before .before .derivatives-at .ensures in
-    let u = c .before .before .before .before .before .new5 .ensures in
-    let vk = c .before .before .before .before .before .before .before .before .new4 .ensures in
-    let current = c .before .before .before .before .before .before .before .before .before .before .before .new3 .ensures in
-    let v = c .before .before .before .before .before .before .before .before .before .before .before .before .before .before .new2 .ensures in
-    let y = c .before .before .before .before .before .before .before .before .before .before .before .before .before .before .before .before .before .new .ensures in
-    let k = c .before .before .before .before .before .before .before .before .before .before .before .before .before .before .before .before .before .before .before .before .before .before .before .before .bus2 .ensures in
-    let i = c .before .before .before .before .before .before .before .before .before .before .before .before .before .before .before .before .before .before .before .before .before .before .before .before .before .bus .ensures .0 in
-    let s = c .before .before .before .before .before .before .before .before .before .before .before .before .before .before .before .before .before .before .before .before .before .before .before .before .before .before in
-    let l = s .before .loop in (
+    let a = c .before .before in
+    let d = a .before .before in
+    let u = d .before in
+    let vk = u .before .before .before in
+    let current = vk .before .before .before in
+    let v = current .before .before .before in
+    let y = v .before .before .before in
+    let k = y .before .before .before .before .before .before .before in
+    let i = k .before in
+    let l = i .before .before .loop in (
       omega arith,
       l .inv .1,
-      all .kept .0 ∙ l .inv .2,
-      λ va h. rw (add-one, jacobian-turn, ← l .inv .3 va h, ← i, ← k .0, ← h _ (k .1), ← u, ← vk, ← current, ← v, ← y, ← d) (all .ensures),
+      a .enter-all .kept .0 ∙ l .inv .2,
+      λ va h.
+          rw (
+            add-one,
+            jacobian-turn,
+            ← l .inv .3 va h,
+            ← i .bus .ensures .0,
+            ← k .bus2 .ensures .0,
+            ← h _ (k .bus2 .ensures .1),
+            ← u .new5 .ensures,
+            ← vk .new4 .ensures,
+            ← current .new3 .ensures,
+            ← v .new2 .ensures,
+            ← y .new .ensures,
+            ← d .derivatives-at .ensures,
+          ) (a .enter-all .ensures),
     )
 
 returns : tie.Need-returns Inv-loop μ-loop
@@ -73,4 +104,52 @@ returns c =
     rw e at (l .inv .3 va (λ b h. rw (c .before .before .before .before .voltages .ensures) (unit-at _ va b h (s .pre .0 .few))))
 
 pub ac-jacobian-spec : {M : Type 1} → statement M
-ac-jacobian-spec = tie.close (tie.spec Inv-loop μ-loop voltages-requires loop-holds bus-requires bus-requires-2 (λ c. omega arith) (λ c. omega arith) (λ c. omega arith) (λ c. omega arith) (λ c. omega arith) (λ c. omega arith) (λ c. omega arith) (λ c. omega arith) (λ c. omega arith) (λ c. omega arith) (λ c. omega arith) (λ c. omega arith) (λ c κs. omega arith) (λ c. omega arith) (λ c. omega arith) (λ c. omega arith) (λ c. omega arith) (λ c κs. omega arith) (λ c. omega arith) (λ c. omega arith) (λ c. omega arith) (λ c. omega arith) (λ c κs. omega arith) (λ c. omega arith) (λ c. omega arith) (λ c. omega arith) (λ c. omega arith) (λ c κs. omega arith) (λ c. omega arith) (λ c. omega arith) (λ c. omega arith) (λ c. omega arith) (λ c κs. omega arith) (λ c κs. omega arith) enter-all-requires add-t loop-less loop-again (λ c. omega arith) returns)
+ac-jacobian-spec =
+    tie.close
+    (tie.spec
+    Inv-loop
+    μ-loop
+    voltages-requires
+    loop-holds
+    bus-requires
+    bus-requires-2
+    (λ c. omega arith)
+    (λ c. omega arith)
+    (λ c. omega arith)
+    (λ c. omega arith)
+    (λ c. omega arith)
+    (λ c. omega arith)
+    (λ c. omega arith)
+    (λ c. omega arith)
+    (λ c. omega arith)
+    (λ c. omega arith)
+    (λ c. omega arith)
+    (λ c. omega arith)
+    (λ c κs. omega arith)
+    (λ c. omega arith)
+    (λ c. omega arith)
+    (λ c. omega arith)
+    (λ c. omega arith)
+    (λ c κs. omega arith)
+    (λ c. omega arith)
+    (λ c. omega arith)
+    (λ c. omega arith)
+    (λ c. omega arith)
+    (λ c κs. omega arith)
+    (λ c. omega arith)
+    (λ c. omega arith)
+    (λ c. omega arith)
+    (λ c. omega arith)
+    (λ c κs. omega arith)
+    (λ c. omega arith)
+    (λ c. omega arith)
+    (λ c. omega arith)
+    (λ c. omega arith)
+    (λ c κs. omega arith)
+    (λ c κs. omega arith)
+    enter-all-requires
+    add-t
+    loop-less
+    loop-again
+    (λ c. omega arith)
+    returns)

@@ -9,36 +9,101 @@ use Rattle.pf_ac.specs.Network.Laws.{study-ready, acPf-is}
 use Rattle.pf_ac.proofs.ac_pf_with_start.Statement.{statement}
 use Rattle.pf_ac.proofs.ac_pf_with_start.Tie as tie
 
+-- ---- the start, from before the first call and from after each
+
+abbrev start-of : tie.After-slice-known → tie.Start
+start-of c = c .before .before .before .before .before .before .before .before .before .before .before .before .before .before .before .before .before .before .before .before
+
+abbrev kinds-start : tie.After-default-kinds → tie.Start
+kinds-start c = start-of (c .before)
+
+abbrev limits-start : tie.After-aggregate-q → tie.Start
+limits-start c = kinds-start (c .before)
+
+abbrev references-start : tie.After-island-references → tie.Start
+references-start c = limits-start (c .before)
+
+abbrev flat-start : tie.After-flat-start → tie.Start
+flat-start c = references-start (c .before)
+
+abbrev first-start : tie.After-first-start → tie.Start
+first-start c = flat-start (c .before)
+
+abbrev column-start : tie.After-column → tie.Start
+column-start c = first-start (c .before)
+
+abbrev search-start : tie.After-search-arg → tie.Start
+search-start c = column-start (c .before .before)
+
 -- the tables as they came
 abbrev network-of : tie.Start → Network
-network-of s = network (now (s .args .kind)) (now (s .args .vm-set)) (now (s .args .pd)) (now (s .args .qd)) (now (s .args .pg)) (now (s .args .qg)) (now (s .args .vm-case)) (now (s .args .va-case)) (now (s .args .slacks)) (now (s .args .va-slacks)) (now (s .args .gen-bus)) (now (s .args .qmin)) (now (s .args .qmax)) (now (s .args .br-from)) (now (s .args .br-to)) (now (s .args .y-row)) (now (s .args .y-col)) (now (s .args .y-re)) (now (s .args .y-im)) (s .args .start)
+network-of s =
+    let a = s .args in
+    network (now (a .kind)) (now (a .vm-set)) (now (a .pd)) (now (a .qd)) (now (a .pg)) (now (a .qg)) (now (a .vm-case)) (now (a .va-case)) (now (a .slacks)) (now (a .va-slacks))
+    (now (a .gen-bus)) (now (a .qmin)) (now (a .qmax)) (now (a .br-from)) (now (a .br-to)) (now (a .y-row)) (now (a .y-col)) (now (a .y-re)) (now (a .y-im)) (a .start)
+
+-- ---- the needs
 
 default-kinds-requires : tie.Need-default-kinds-requires
-default-kinds-requires c κs = let r = c .before .before .before .before .before .before .before .before .before .before .before .before .before .before .before .before .before .before .before .before .pre .0 in (r .few, omega arith, r .slacks-below)
+default-kinds-requires c κs = let r = start-of c .pre .0 in (r .few, omega arith, r .slacks-below)
 
 aggregate-q-requires : tie.Need-aggregate-q-requires
-aggregate-q-requires c κs = let r = c .before .before .before .before .before .before .before .before .before .before .before .before .before .before .before .before .before .before .before .before .before .pre .0 in (r .min-size, r .max-size, λ i h. let k = r .gens-below i h in let f = r .few in omega arith)
+aggregate-q-requires c κs =
+    let r = kinds-start c .pre .0 in
+    (r .min-size, r .max-size, λ i h. omega (arith, r .gens-below i h, r .few))
 
 island-references-requires : tie.Need-island-references-requires
-island-references-requires c κs = let r = c .before .before .before .before .before .before .before .before .before .before .before .before .before .before .before .before .before .before .before .before .before .before .pre .0 in (r .few, r .slack-size, r .slacks-below, r .ends)
+island-references-requires c κs = let r = limits-start c .pre .0 in (r .few, r .slack-size, r .slacks-below, r .ends)
 
 flat-start-requires : tie.Need-flat-start-requires
-flat-start-requires c κs = let r = c .before .before .before .before .before .before .before .before .before .before .before .before .before .before .before .before .before .before .before .before .before .before .before .pre .0 in (r .few, omega (arith, r .set-size))
+flat-start-requires c κs = let r = references-start c .pre .0 in (r .few, omega (arith, r .set-size))
 
 first-start-requires : tie.Need-first-start-requires
-first-start-requires c κs = let s = c .before .before .before .before .before .before .before .before .before .before .before .before .before .before .before .before .before .before .before .before .before .before .before .before in let r = s .pre .0 in let a = s .args in (r .few, omega (arith, r .set-size), omega (arith, r .vm-size), omega (arith, r .va-size), rw (c .before .island-references .ensures) (references-slacks (length (now (a .kind))) (now (a .slacks)) (now (a .va-slacks)) (now (a .br-from)) (now (a .br-to)) (r .few) (r .slacks-below)))
+first-start-requires c κs =
+    let s = flat-start c in
+    let r = s .pre .0 in
+    let a = s .args in (
+      r .few,
+      omega (arith, r .set-size),
+      omega (arith, r .vm-size),
+      omega (arith, r .va-size),
+      rw (c .before .island-references .ensures)
+          (references-slacks (length (now (a .kind))) (now (a .slacks)) (now (a .va-slacks)) (now (a .br-from)) (now (a .br-to)) (r .few) (r .slacks-below)),
+    )
 
 column-requires : tie.Need-column-requires
-column-requires c κs = let r = c .before .before .before .before .before .before .before .before .before .before .before .before .before .before .before .before .before .before .before .before .before .before .before .before .before .pre .0 in (r .few, omega (arith, r .qg-size))
+column-requires c κs = let r = first-start c .pre .0 in (r .few, omega (arith, r .qg-size))
 
 column-requires-2 : tie.Need-column-requires-2
-column-requires-2 c κs = let r = c .before .before .before .before .before .before .before .before .before .before .before .before .before .before .before .before .before .before .before .before .before .before .before .before .before .before .pre .0 in (r .few, omega (arith, r .set-size))
+column-requires-2 c κs = let r = column-start c .pre .0 in (r .few, omega (arith, r .set-size))
 
 search-requires : tie.Need-search-requires
-search-requires c κs = let s = c .before .before .before .before .before .before .before .before .before .before .before .before .before .before .before .before .before .before .before .before .before .before .before .before .before .before .before .before in (study-ready (network-of s) (s .pre .0) _ _ _, s .pre .1)
+search-requires c κs = let s = search-start c in (study-ready (network-of s) (s .pre .0) _ _ _, s .pre .1)
 
 returns : tie.Need-returns
-returns c = let f = c .before .before in let h = f .before .before in let q = h .before in let p = q .before in let g = p .before in let i = g .before in let l = i .before in let k = l .before in acPf-is (network-of (k .before .before .before .before .before .before .before .before .before .before .before .before .before .before .before .before .before .before .before .before .before)) _ _ (k .default-kinds .ensures) _ (l .aggregate-q .ensures) _ (i .island-references .ensures) _ (g .flat-start .ensures) _ (p .first-start .ensures) _ (q .column .ensures) _ (h .column2 .ensures) _ (f .search .ensures)
+returns c =
+    let f = c .before .before in
+    let h = f .before .before in
+    let q = h .before in
+    let p = q .before in
+    let g = p .before in
+    let i = g .before in
+    let l = i .before in
+    let k = l .before in
+    acPf-is (network-of (kinds-start k)) _ _ (k .default-kinds .ensures) _ (l .aggregate-q .ensures) _ (i .island-references .ensures) _ (g .flat-start .ensures) _
+    (p .first-start .ensures) _ (q .column .ensures) _ (h .column2 .ensures) _ (f .search .ensures)
 
 pub ac-pf-with-start-spec : {M : Type 1} → statement M
-ac-pf-with-start-spec = tie.close (tie.spec default-kinds-requires aggregate-q-requires island-references-requires flat-start-requires first-start-requires column-requires column-requires-2 search-requires (λ c. search needs) returns)
+ac-pf-with-start-spec =
+    tie.close
+    (tie.spec
+    default-kinds-requires
+    aggregate-q-requires
+    island-references-requires
+    flat-start-requires
+    first-start-requires
+    column-requires
+    column-requires-2
+    search-requires
+    (λ c. search needs)
+    returns)
