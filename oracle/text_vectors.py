@@ -9,7 +9,7 @@ stdin: how many records, and the records. Numbers have two bytes, the higher fir
     the refusal's number (0 of a good answer), its place, the flag of a good answer, and how many places each of the 19 columns has
     for each column where its words start, counted from here, and how many rows it has
     the words of the columns, of eight bytes: one for each row, and behind them one for all places past the rows
-  Before each reading a column holds 7 in every place. Columns of the same words share them.
+  Before each reading a column holds a mark in every place: 251, or 1e300 in a column of reals. Columns of the same words share them.
 """
 import random
 import re
@@ -83,8 +83,10 @@ def read(text, narrow=False):
 
 
 def words(kind, column):
-    """A column's values as words, and behind them the 7 that every place past the rows still holds."""
-    return struct.pack(f">{len(column) + 1}Q", *column, 7 if kind in "kb" else bits(7.0))
+    """A column's values as words, and behind them the mark that every place past the rows still holds."""
+    mark = 251 if kind in "kb" else bits(1e300)
+    assert mark not in column
+    return struct.pack(f">{len(column) + 1}Q", *column, mark)
 
 
 def encode(content, narrow=False):

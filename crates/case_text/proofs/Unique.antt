@@ -79,4 +79,5 @@ module _ (s : List ℕ) (old new : Columns) (r : Reading) (h : outcome (paperOf 
   -- a refusal leaves every column untouched
   pub refusal-writes-nothing : ((c : Tables) → r ≡ Reading.Good c → ⊥) → new ≡ old
   unfolding readOf
-  refusal-writes-nothing k = ap left h ∙ ap (λ (v : Reading). left (settledOf s v old)) (sym answer-is) ∙ left-alone (paperOf r) _ old (λ c e. k c (paper-tells r (Reading.Good c) e))
+  refusal-writes-nothing k =
+      ap left h ∙ ap (λ (v : Reading). left (settledOf s v old)) (sym answer-is) ∙ left-alone (paperOf r) _ old (λ c e. k c (paper-tells r (Reading.Good c) e))

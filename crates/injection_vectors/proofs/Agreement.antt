@@ -1,40 +1,32 @@
 -- What the comparisons of the program show of the definitions: the input tells every place, so there is one list, one record and one workspace
 -- to begin from. Assumes nothing.
-use Prim.Native.Nat.{ℕ, _+_, _*_, _≤_, _<_}
+use Prim.Native.Nat.{ℕ, _+_, _*_, _≤_}
 use mathlib.Core.Path.{_≡_, sym, _∙_}
-use mathlib.Core.Bool.{Bool, true, false, not, true≢false}
+use mathlib.Core.Bool.{Bool}
 use mathlib.Core.List.{List}
-use native.Mathlib.Omega.{arith}
-use borrow.Author.Tests.{not-true}
+use native.Mathlib.Nat.{le-refl}
 use lib.ListN.{length, replicate, length-replicate, getD-replicate}
-use lib.Seq.{ext-getD}
 use lib.Ieee.{Float, nan}
+use Rattle.real.specs.Each.{each}
+use Rattle.real.specs.Each.Laws.{length-each, is-each}
 use Rattle.real.specs.Literals.{nought}
 use Rattle.vectors.specs.Words.{Tells}
-use Rattle.layout.specs.Table.{stores, Below}
-use Rattle.layout.specs.Table.Laws.{stores-length, stores-at}
+use Rattle.layout.specs.Table.{stores, Below, allBelow}
+use Rattle.layout.specs.Table.Laws.{stores-length, stores-at, all-below, below-all}
 use Rattle.injections.specs.declared.Column.{Column}
 use Rattle.injections.specs.declared.Injections.{Injections}
 use Rattle.injections.specs.Injections.{ybus, Good}
 use Rattle.injection_vectors.specs.Told.{wordsTold, doublesTold, ybusTold, Zeros, Holds, jacobianAt, Entries}
 
--- ---- answers
-
--- a comparison that failed, of something that P needs
-pub not-told : {P Q : Type 0} (b : Bool) → Tells b Q → not b ≡ true → (P → Q) → Tells false P
-not-told b t e f = (λ z. absurd (true≢false (sym z)), λ p. absurd (true≢false (sym (t .1 (f p)) ∙ not-true b e)))
-
--- the last comparison
-pub last-told : {P Q : Type 0} {b : Bool} → Tells b Q → (P → Q) → (Q → P) → Tells b P
-last-told t f g = (λ e. g (t .0 e), λ p. t .1 (f p))
+-- whether all numbers of a list are below n, told of one that is equal
+pub below-told : (n : ℕ) (l m : List ℕ) (b : Bool) → l ≡ m → b ≡ allBelow (length l) n l → Tells b (Below n m)
+below-told n l m b e h = rw (← e) (λ t. all-below n l (sym h ∙ t), λ p. h ∙ below-all n l p)
 
 -- ---- lists and records
 
 -- a list that is written over whole is what was written, whatever it held
-pub written-over : {A : Type 0} (f : ℕ → A) (m : ℕ) (l : List A) (z : A) → length l ≡ m → stores f m l ≡ stores f m (replicate m z)
-written-over f m l z e =
-    ext-getD z (stores f m l) (stores f m (replicate m z)) (simp (stores-length, length-replicate) e)
-    (λ i h. let p : i < m = rw (stores-length f m l, e) at h in stores-at f m l i z p (omega arith) ∙ sym (stores-at f m (replicate m z) i z p (rw length-replicate (omega arith))))
+pub written-over : {A : Type 0} (f : ℕ → A) (d : A) (l : List A) → stores f (length l) l ≡ each (length l) f
+written-over f d l = is-each (length l) f d (stores f (length l) l) (stores-length f (length l) l) (λ i h. stores-at f (length l) l i d h (le-refl (length l)))
 
 pub column-parts : (c : Column) (x y : List Float) → c .re ≡ x → c .im ≡ y → c ≡ record { re = x; im = y }
 column-parts c x y p q = rw (← p, ← q)
@@ -55,9 +47,9 @@ module _ (s : List ℕ) (m : ℕ) where
   good n few rows cols =
       record {
         few = few;
-        cols = simp (stores-length, length-replicate);
-        res = simp (stores-length, length-replicate);
-        ims = simp (stores-length, length-replicate);
+        cols = simp length-each;
+        res = simp length-each;
+        ims = simp length-each;
         rows-below = rows;
         cols-below = cols;
       }
@@ -68,7 +60,7 @@ pub zeros : Zeros (replicate 4224 nought)
 zeros = record { size = length-replicate 4224 nought; each = λ i h. getD-replicate 4224 i nought nan h }
 
 one-space : {w v : List Float} → Zeros w → Zeros v → w ≡ v
-one-space {w} {v} a b = ext-getD nan w v (a .size ∙ sym (b .size)) (λ i h. let k = a .size in a .each i (omega arith) ∙ sym (b .each i (omega arith)))
+one-space {w} {v} a b = is-each 4224 (λ i. nought) nan w (a .size) (a .each) ∙ sym (is-each 4224 (λ i. nought) nan v (b .size) (b .each))
 
 pub entries-told : (s : List ℕ) (n m dim : ℕ) (w v : List Float) (r : Bool) → Zeros w → v ≡ jacobianAt s n m dim w → Tells r (Holds v s (m * 32 + n * 96) dim)
     → Tells r (Entries s n m dim)

@@ -5,12 +5,13 @@ use mathlib.Core.Path.{_≡_}
 use mathlib.Core.Bool.{cond}
 use mathlib.Core.List.{List}
 use lib.Dec.{ltb}
-use lib.ListN.{length, getD, replicate}
+use lib.ListN.{length, getD}
 use lib.Ieee.{Float, nan}
+use Rattle.real.specs.Each.{each}
 use Rattle.real.specs.Literals.{nought}
 use Rattle.vectors.specs.Words.{wordOf, doubleAt}
 use Rattle.layout.specs.declared.AcPfLayout.{AcPfLayout}
-use Rattle.layout.specs.Table.{stores, table, Below}
+use Rattle.layout.specs.Table.{table, Below}
 use Rattle.layout.specs.Layout.{none}
 use Rattle.injections.specs.declared.Column.{Column}
 use Rattle.injections.specs.declared.Injections.{Injections}
@@ -26,10 +27,10 @@ doubleTold s from k = doubleAt (from + k * 8) s
 
 -- lists of m
 abbrev pub wordsTold : List ℕ → ℕ → ℕ → List ℕ
-wordsTold s from m = stores (wordTold s from) m (replicate m 0)
+wordsTold s from m = each m (wordTold s from)
 
 abbrev pub doublesTold : List ℕ → ℕ → ℕ → List Float
-doublesTold s from m = stores (doubleTold s from) m (replicate m nought)
+doublesTold s from m = each m (doubleTold s from)
 
 -- tables of n
 abbrev pub tableTold : List ℕ → ℕ → ℕ → List Float

@@ -3,7 +3,6 @@
 ghost use mathlib.Core.Path.{_≡_};
 ghost use Prim.Native.Nat.{_+_, _*_, _≤_, _<_};
 ghost use lib.ListN.{length, replicate};
-ghost use Rattle.layout.specs.Table.{Below};
 ghost use Rattle.injections.specs.Injections.{ybus, Good};
 ghost use Rattle.real.specs.Literals.{nought};
 ghost use Rattle.vectors.specs.Words.{wordOf, Tells, Found};
@@ -74,17 +73,6 @@ fn layout_at(s: &[u8], from: usize, n: usize, dim: usize) -> AcPfLayout
 }
 
 // ---- comparing
-
-fn below(xs: &[usize], n: usize) -> bool
-    ensures { λ r. ⌜ Tells r (Below n (now (xs .entry))) ⌝ }
-{
-    for k in 0..xs.len() {
-        if xs[k] >= n {
-            return false;
-        }
-    }
-    true
-}
 
 fn equal(xs: [f64; 32], ys: [f64; 32]) -> bool
     ensures { λ r. ⌜ Tells r (xs ≡ ys) ⌝ }
@@ -232,10 +220,10 @@ fn agrees(
     requires { ⌜ Fits (now s) n m dim × (ybus (now row) (now col) (now re) (now im) ≡ ybusTold (now s) m) ⌝ }
     ensures { λ r. ⌜ Tells r (Agrees (now (s .entry)) n m dim) ⌝ }
 {
-    if !below(row, n) {
+    if !layout::below(n, row) {
         return false;
     }
-    if !below(col, n) {
+    if !layout::below(n, col) {
         return false;
     }
     if !injections_agree(s, n, m, dim, row, col, re, im) {

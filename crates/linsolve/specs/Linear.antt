@@ -36,6 +36,11 @@ cleared dim w = clearRows dim 0 dim w
 abbrev pub added : ℕ → ℕ → Float → List Float → List Float
 added row col x w = set w (row * 64 + col) (add binary64 (at w (row * 64 + col)) x)
 
+-- f r as the right side of each of the first n rows r
+unfoldable pub withSides : ℕ → (ℕ → Float) → List Float → List Float
+withSides zero f w = w
+withSides (suc k) f w = set (withSides k f w) (4096 + k) (f k)
+
 -- "the pivot is the row, at or below the diagonal, whose absolute value is strictly above the best so far": of the n rows from r on, else p
 unfoldable pub pivotFrom : ℕ → ℕ → ℕ → Float → ℕ → List Float → ℕ
 unfolding absolute
@@ -122,14 +127,9 @@ unfoldable pub workedOut : (ℕ → ℕ) → ℕ → List Float → Outcome
 unfolding finish reduce
 workedOut first dim w = finish dim (reduce first dim 0 dim w)
 
--- the n right sides from row r on taken from v
-unfoldable pub sidesFrom : ℕ → ℕ → List Float → List Float → List Float
-sidesFrom zero r v w = w
-sidesFrom (suc n) r v w = sidesFrom n (r + 1) v (set w (4096 + r) (at v (4096 + r)))
-
 -- the solve: its answer and its right sides, where the solution stands, by 01's rule to the letter; in the matrix's places what ours leaves there
 unfoldable pub solution : ℕ → List Float → Outcome
-unfolding workedOut sidesFrom
+unfolding workedOut withSides
 solution dim w =
     let exact = workedOut wholeRow dim w in
-    outcome (answerOf exact) (sidesFrom dim 0 (spaceOf exact) (spaceOf (workedOut afterPivot dim w)))
+    outcome (answerOf exact) (withSides dim (λ r. at (spaceOf exact) (4096 + r)) (spaceOf (workedOut afterPivot dim w)))

@@ -4,7 +4,7 @@ pub mod Laws
 use Prim.Native.Nat.{ℕ, zero, suc, _+_, _≤_}
 use mathlib.Core.Bool.{true, false, cond}
 use mathlib.Core.List.{List}
-use lib.ListN.{length, getD, set}
+use lib.ListN.{length, getD}
 use lib.Ieee.{Float, nan, binary64, mul, lt}
 use Rattle.real.specs.Literals.{one, half, tolerance}
 use Rattle.real.specs.Norm.{normOf}
@@ -12,7 +12,7 @@ use Rattle.layout.specs.declared.AcPfLayout.{AcPfLayout}
 use Rattle.layout.specs.Residual.{powers, residualOf}
 use Rattle.linsolve.specs.declared.Solution.{Solution}
 use Rattle.linsolve.specs.declared.Solution.the-variants as Solution
-use Rattle.linsolve.specs.Linear.{Outcome, answerOf, spaceOf, cleared, solution}
+use Rattle.linsolve.specs.Linear.{Outcome, answerOf, spaceOf, cleared, withSides, solution}
 use Rattle.injections.specs.Injections.{Ybus, Good, injectionsOf}
 use Rattle.injections.specs.Jacobian.{jacobianOf}
 use Rattle.layout.specs.declared.Point.{Point}
@@ -53,9 +53,8 @@ measuredOf g p =
 -- ---- the direction
 
 -- the mismatch as the right side
-unfoldable pub sidesTo : ℕ → List Float → List Float → List Float
-sidesTo zero r w = w
-sidesTo (suc k) r w = set (sidesTo k r w) (4096 + k) (getD r k nan)
+abbrev pub sidesTo : ℕ → List Float → List Float → List Float
+sidesTo n r w = withSides n (λ k. getD r k nan) w
 
 -- the Jacobian's entries added to a zero matrix, and the linear solve
 unfoldable pub directionOf : Ybus → AcPfLayout → List Float → Measured → List Float → Outcome

@@ -10,6 +10,7 @@ use mathlib.Core.List.{List}
 use Rattle.real.specs.Tests.{decided}
 use Rattle.real.specs.Paper.{Paper, given, refused}
 use Rattle.vectors.specs.Words.{pairOf, Tells}
+use Rattle.vectors.specs.Words.Laws.{equal-told, both-told}
 use Rattle.trailer.specs.Trailer.{modeOf}
 use Rattle.case_text.specs.Answer.{paperOf}
 use Rattle.case_text.specs.declared.Tables.{Tables}
@@ -18,7 +19,6 @@ use Rattle.trailer.specs.declared.Start.{Start}
 use Rattle.trailer.specs.declared.Start.the-variants as Start
 use Rattle.case_text.proofs.Refusals.{Refused, refused-paper}
 use Rattle.text_vectors.specs.Told.{numberIn, placeOf, refusal, answer, rowsTold, tablesTold, paperTold}
-use Rattle.text_vectors.proofs.Telling.{equal, both}
 
 -- ---- the start
 
@@ -63,7 +63,8 @@ abbrev tablesIn : Tables → Paper Tables → Tables
 tablesIn d (given c) = c
 tablesIn d (refused n values) = d
 
-same-tables : (c d : Tables) → c .start ≡ d .start → c .buses ≡ d .buses → c .slacks ≡ d .slacks → c .generators ≡ d .generators → c .branches ≡ d .branches → c .triplets ≡ d .triplets → c ≡ d
+same-tables : (c d : Tables) → c .start ≡ d .start → c .buses ≡ d .buses → c .slacks ≡ d .slacks → c .generators ≡ d .generators → c .branches ≡ d .branches
+    → c .triplets ≡ d .triplets → c ≡ d
 same-tables c d a b r g l y = λ i. record { start = a i; buses = b i; slacks = r i; generators = g i; branches = l i; triplets = y i }
 
 good-answer : (n at : ℕ) (d : Tables) → n ≡ 0 → given d ≡ answer n at d
@@ -76,7 +77,7 @@ pub tables-told : (s : List ℕ) (c : Tables) {f : Bool} {n b r g l y : ℕ} →
     → b ≡ rowsTold s 0 → r ≡ rowsTold s 8 → g ≡ rowsTold s 10 → l ≡ rowsTold s 13 → y ≡ rowsTold s 15
     → Tells ((((((eqb n 0 && f) && eqb (c .buses) b) && eqb (c .slacks) r) && eqb (c .generators) g) && eqb (c .branches) l) && eqb (c .triplets) y) (given c ≡ paperTold s)
 tables-told s c {f} {n} {b} {r} {g} {l} {y} en started eb er eg el ey =
-    let t = both _ _ (both _ _ (both _ _ (both _ _ (both _ _ (both _ _ (equal n 0) started) (equal (c .buses) b)) (equal (c .slacks) r)) (equal (c .generators) g)) (equal (c .branches) l)) (equal (c .triplets) y) in (
+    let t = both-told _ _ (both-told _ _ (both-told _ _ (both-told _ _ (both-told _ _ (both-told _ _ (equal-told n 0) started) (equal-told (c .buses) b)) (equal-told (c .slacks) r)) (equal-told (c .generators) g)) (equal-told (c .branches) l)) (equal-told (c .triplets) y) in (
       λ e. let p = t .0 e in
           let z = sym en ∙ p .0 .0 .0 .0 .0 .0 in
           ap given (same-tables c (tablesTold s) (p .0 .0 .0 .0 .0 .1) (p .0 .0 .0 .0 .1 ∙ eb) (p .0 .0 .0 .1 ∙ er) (p .0 .0 .1 ∙ eg) (p .0 .1 ∙ el) (p .1 ∙ ey)) ∙ good-answer (pairOf 0 s) (pairOf 2 s) (tablesTold s) z,

@@ -7,11 +7,13 @@ use lib.ListN.{length, take, drop, replicate}
 use lib.Ieee.{Float}
 use Rattle.real.specs.Paper.{Paper}
 use Rattle.real.specs.Literals.{lit}
+use Rattle.real.specs.Each.{each}
 use Rattle.vectors.specs.Words.{Tells}
+use Rattle.vectors.specs.Words.Laws.{both-told}
 use Rattle.case_text.specs.declared.Tables.{Tables}
 use Rattle.case_text.specs.Answer.{columns, outcome, readOf}
-use Rattle.text_vectors.specs.Told.{listed, paperTold, numbersTold, realsTold, outcomeTold, widthTold, Agrees}
-use Rattle.text_vectors.proofs.Telling.{both, front, cut-length, cut-again, lent-again}
+use Rattle.text_vectors.specs.Told.{paperTold, numbersTold, realsTold, outcomeTold, widthTold, Agrees}
+use Rattle.text_vectors.proofs.Telling.{front, cut-length, cut-again, lent-again}
 
 -- what a column's first m places hold, of 258 that held a, after a call that kept their number
 pub record Lent {A : Type 0} (m : ℕ) (a : A) (col : List A) : Type 0 where
@@ -25,8 +27,8 @@ module _ {A : Type 0} {m : ℕ} {a : A} {col : List A} (w : Lent m a col) where
   pub shared-length : m ≡ length (take m (col ++ drop m (replicate 258 a)))
   shared-length = cut-again 258 m a col (w .fits) (w .kept)
 
-  pub tested : {b : Bool} (f : ℕ → A) → Tells b (take m (col ++ drop m (replicate 258 a)) ≡ listed (length (take m (col ++ drop m (replicate 258 a)))) f)
-      → Tells b (col ≡ listed (length (take m (replicate 258 a))) f)
+  pub tested : {b : Bool} (f : ℕ → A) → Tells b (take m (col ++ drop m (replicate 258 a)) ≡ each (length (take m (col ++ drop m (replicate 258 a)))) f)
+      → Tells b (col ≡ each (length (take m (replicate 258 a))) f)
   tested f t = front f col _ (w .kept) (cut-length 258 m a (w .fits)) t
 
 -- a reading into columns, the answer and each column tested
@@ -58,16 +60,16 @@ module _ (text s k : List ℕ) (x : List Float) {p : Paper Tables}
       → Tells (((((((((((((((((((a && a0) && a1) && a2) && a3) && a4) && a5) && a6) && a7) && a8) && a9) && a10) && a11) && a12) && a13) && a14) && a15) && a16) && a17) && a18)
       (readOf text (columns k x x x x x x x k x k x x k k k k x x) ≡ outcomeTold s (columns k x x x x x x x k x k x x k k k k x x))
   compared is t t0 t1 t2 t3 t4 t5 t6 t7 t8 t9 t10 t11 t12 t13 t14 t15 t16 t17 t18 =
-      let buses = both _ _ (both _ _ (both _ _ (both _ _ (both _ _ (both _ _ (both _ _ (both _ _ t t0) t1) t2) t3) t4) t5) t6) t7 in
-      let sources = both _ _ (both _ _ (both _ _ (both _ _ (both _ _ buses t8) t9) t10) t11) t12 in
-      let all = both _ _ (both _ _ (both _ _ (both _ _ (both _ _ (both _ _ sources t13) t14) t15) t16) t17) t18 in (
+      let buses = both-told _ _ (both-told _ _ (both-told _ _ (both-told _ _ (both-told _ _ (both-told _ _ (both-told _ _ (both-told _ _ t t0) t1) t2) t3) t4) t5) t6) t7 in
+      let sources = both-told _ _ (both-told _ _ (both-told _ _ (both-told _ _ (both-told _ _ buses t8) t9) t10) t11) t12 in
+      let all = both-told _ _ (both-told _ _ (both-told _ _ (both-told _ _ (both-told _ _ (both-told _ _ sources t13) t14) t15) t16) t17) t18 in (
         λ e. let h = all .0 e in cc,
         λ e. let f = is ∙ e in all .1 (((((((((((((((((((cc, cc), cc), cc), cc), cc), cc), cc), cc), cc), cc), cc), cc), cc), cc), cc), cc), cc), cc), cc),
       )
 
--- what is told of columns that hold 7 in each of so many places
-pub of-sevens : {b : Bool} (text s : List ℕ) {k : List ℕ} {x : List Float} {m : ℕ}
-    → k ≡ replicate m 7 → x ≡ replicate m (lit 0x401c_0000_0000_0000) → m ≡ widthTold s
+-- what is told of columns that hold the mark in each of so many places
+pub of-marks : {b : Bool} (text s : List ℕ) {k : List ℕ} {x : List Float} {m : ℕ}
+    → k ≡ replicate m 251 → x ≡ replicate m (lit 0x7e37_e43c_8800_759c) → m ≡ widthTold s
     → Tells b (readOf text (columns k x x x x x x x k x k x x k k k k x x) ≡ outcomeTold s (columns k x x x x x x x k x k x x k k k k x x))
     → Tells b (Agrees text s)
-of-sevens text s ek ex em t = rw (ek, ex, em) at t
+of-marks text s ek ex em t = rw (ek, ex, em) at t

@@ -1,47 +1,22 @@
--- What a test tells: of a number, of two tests together, and of a list, by its places. Assumes nothing.
+-- What is told of a column by its places, and of columns of which a part is lent. Assumes nothing.
 use mathlib.Core.Path.{_≡_, refl, sym, ap, _∙_}
-use mathlib.Core.Bool.{Bool, true, false, true≢false, _&&_}
+use mathlib.Core.Bool.{Bool}
 use mathlib.Core.List.{List, _∷_, _++_}
 use Prim.Native.Nat.{ℕ, zero, suc, _≤_, _<_}
 use native.Mathlib.Omega.{arith}
-use borrow.Author.Tests.{eq-eqb, eqb-true}
-use lib.Dec.{eqb}
 use lib.ListN.{length, getD, take, drop, replicate, length-append, length-replicate}
-use lib.Seq.{ext-getD, take-at}
+use lib.Seq.{take-at}
+use Rattle.real.specs.Each.{each}
+use Rattle.real.specs.Each.Laws.{each-at}
 use Rattle.vectors.specs.Words.{Tells}
-use Rattle.text_vectors.specs.Told.{listed}
 
-pub equal : (m n : ℕ) → Tells (eqb m n) (m ≡ n)
-equal m n = (eqb-true m n, eq-eqb m n)
-
-pub both : {P Q : Type 0} (a b : Bool) → Tells a P → Tells b Q → Tells (a && b) (P × Q)
-both true b p q = (λ e. (p .0 refl, q .0 e), λ h. q .1 (h .1))
-both false b p q = (λ e. absurd (true≢false (sym e)), λ h. p .1 (h .0))
-
-pub never : {P : Type 0} → (P → ⊥) → Tells false P
-never h = (λ e. absurd (true≢false (sym e)), λ p. absurd (h p))
-
-length-listed : {A : Type 0} (m : ℕ) (f : ℕ → A) → length (listed m f) ≡ m
-unfolding listed
-length-listed zero f = refl
-length-listed (suc m) f = rw (length-listed m (λ i. f (suc i)))
-
-getD-listed : {A : Type 0} (m : ℕ) (f : ℕ → A) (d : A) (i : ℕ) → i < m → getD (listed m f) i d ≡ f i
-unfolding listed
-getD-listed zero f d i h = absurd (omega arith)
-getD-listed (suc m) f d zero h = refl
-getD-listed (suc m) f d (suc i) h = getD-listed m (λ k. f (suc k)) d i (omega arith)
-
-module _ {A : Type 0} (d : A) (col : List A) (f : ℕ → A) where
-  pub all-told : ((i : ℕ) → i < length col → getD col i d ≡ f i) → col ≡ listed (length col) f
-  all-told h = ext-getD d col (listed (length col) f) (sym (length-listed (length col) f)) (λ i k. h i k ∙ sym (getD-listed (length col) f d i k))
-
-  pub told-at : col ≡ listed (length col) f → (i : ℕ) → i < length col → getD col i d ≡ f i
-  told-at e i h = ap (λ (l : List A). getD l i d) e ∙ getD-listed (length col) f d i h
+-- a column that is told place by place
+pub told-at : {A : Type 0} (d : A) (col : List A) (f : ℕ → A) → col ≡ each (length col) f → (i : ℕ) → i < length col → getD col i d ≡ f i
+told-at {A} d col f e i h = ap (λ (l : List A). getD l i d) e ∙ each-at (length col) f d i h
 
 -- of a column whose first places were lent and kept their number
 pub front : {A : Type 0} {b : Bool} {m n : ℕ} (f : ℕ → A) (col rest : List A) → length col ≡ n → m ≡ n
-    → Tells b (take m (col ++ rest) ≡ listed (length (take m (col ++ rest))) f) → Tells b (col ≡ listed n f)
+    → Tells b (take m (col ++ rest) ≡ each (length (take m (col ++ rest))) f) → Tells b (col ≡ each n f)
 front {m = m} f col rest e l t = rw (take-at col rest m (e ∙ sym l), e) at t
 
 -- the first places of a list of equal ones

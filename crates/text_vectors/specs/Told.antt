@@ -2,11 +2,12 @@
 use mathlib.Core.Path.{_≡_}
 use mathlib.Core.Bool.{cond}
 use mathlib.Core.List.{List, [], _∷_}
-use Prim.Native.Nat.{ℕ, zero, suc, _+_, _*_, min}
+use Prim.Native.Nat.{ℕ, _+_, _*_, min}
 use lib.Dec.{eqb}
 use lib.ListN.{length, replicate}
 use lib.Ieee.{Float, binary64, ofBits}
 use Rattle.real.specs.Paper.{Paper, given, refused, whole, placeIn}
+use Rattle.real.specs.Each.{each}
 use Rattle.real.specs.Literals.{lit}
 use Rattle.vectors.specs.Words.{pairOf, wordOf}
 use Rattle.trailer.specs.Trailer.{modeOf}
@@ -52,17 +53,12 @@ paperTold s = answer (pairOf 0 s) (pairOf 2 s) (tablesTold s)
 unfoldable pub wordTold : List ℕ → ℕ → ℕ → ℕ
 wordTold s j i = wordOf (pairOf (8 + j * 4) s + min i (rowsTold s j) * 8) s
 
--- f's values at the places of a list
-unfoldable pub listed : {A : Type 0} → ℕ → (ℕ → A) → List A
-listed zero f = []
-listed (suc m) f = f 0 ∷ listed m (λ i. f (suc i))
-
 -- column j, as long as before
 abbrev pub numbersTold : List ℕ → ℕ → List ℕ → List ℕ
-numbersTold s j old = listed (length old) (wordTold s j)
+numbersTold s j old = each (length old) (wordTold s j)
 
 abbrev pub realsTold : List ℕ → ℕ → List Float → List Float
-realsTold s j old = listed (length old) (λ i. ofBits binary64 (wordTold s j i))
+realsTold s j old = each (length old) (λ i. ofBits binary64 (wordTold s j i))
 
 abbrev pub columnsTold : List ℕ → Columns → Columns
 columnsTold s (columns kind vmSet pd qd pg qg vmCase vaCase slacks vaSlacks genBus qmin qmax brFrom brTo yRow yCol yRe yIm) =
@@ -78,13 +74,13 @@ outcomeTold s old = outcome (paperTold s) (columnsTold s old)
 abbrev pub widthTold : List ℕ → ℕ
 widthTold s = min (pairOf 6 s) 258
 
--- columns of m places, 7 in each
-abbrev pub sevens : ℕ → Columns
-sevens m =
-    let n : List ℕ = replicate m 7 in
-    let x : List Float = replicate m (lit 0x401c_0000_0000_0000) in
+-- columns of m places, each with a mark that no text can hold: 251 is no kind and here no bus number, and 1e300 has more than 15 digits
+abbrev pub marks : ℕ → Columns
+marks m =
+    let n : List ℕ = replicate m 251 in
+    let x : List Float = replicate m (lit 0x7e37_e43c_8800_759c) in
     columns n x x x x x x x n x n x x n n n n x x
 
 -- the reader's definition gives what the record says of the text
 abbrev pub Agrees : List ℕ → List ℕ → Type 0
-Agrees text s = readOf text (sevens (widthTold s)) ≡ outcomeTold s (sevens (widthTold s))
+Agrees text s = readOf text (marks (widthTold s)) ≡ outcomeTold s (marks (widthTold s))

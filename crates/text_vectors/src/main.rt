@@ -1,5 +1,5 @@
 // Runs read_case on the texts of its input, good and damaged, and compares the answer and every place of every column with what the input says
-// (oracle/text_vectors.py has the format). Before each reading a column holds 7 in every place, and it must still do so past the rows.
+// (oracle/text_vectors.py has the format). Before each reading a column holds a mark in every place, and it must still do so past the rows.
 ghost use mathlib.Core.Path.{_≡_};
 ghost use Prim.Native.Nat.{_+_, _*_, _≤_, _<_};
 ghost use lib.ListN.{length, take, replicate};
@@ -151,31 +151,31 @@ fn answered(s: &[u8], v: case_text::Reading) -> bool
     good(s, c)
 }
 
-// Whether the reading of a text, into columns that hold 7, is as the record says. The columns are as long as the record asks, so that refusal 9 can be met.
+// Whether the reading of a text, into columns of marks, is as the record says. The columns are as long as the record asks, so that refusal 9 can be met.
 fn agrees(text: &[u8], s: &[u8]) -> bool
     requires { ⌜ 600000 ≤ length (now s) ⌝ }
     ensures { λ r. ⌜ Tells r (Agrees (now (text .entry)) (now (s .entry))) ⌝ }
 {
     let m = real::least(vectors::pair(s, 6), 258);
-    let mut kind = [7u8; 258];
-    let mut vm_set = [7.0; 258];
-    let mut pd = [7.0; 258];
-    let mut qd = [7.0; 258];
-    let mut pg = [7.0; 258];
-    let mut qg = [7.0; 258];
-    let mut vm_case = [7.0; 258];
-    let mut va_case = [7.0; 258];
-    let mut slacks = [7usize; 258];
-    let mut va_slacks = [7.0; 258];
-    let mut gen_bus = [7usize; 258];
-    let mut qmin = [7.0; 258];
-    let mut qmax = [7.0; 258];
-    let mut br_from = [7usize; 258];
-    let mut br_to = [7usize; 258];
-    let mut y_row = [7usize; 258];
-    let mut y_col = [7usize; 258];
-    let mut y_re = [7.0; 258];
-    let mut y_im = [7.0; 258];
+    let mut kind = [251u8; 258];
+    let mut vm_set = [1e300; 258];
+    let mut pd = [1e300; 258];
+    let mut qd = [1e300; 258];
+    let mut pg = [1e300; 258];
+    let mut qg = [1e300; 258];
+    let mut vm_case = [1e300; 258];
+    let mut va_case = [1e300; 258];
+    let mut slacks = [251usize; 258];
+    let mut va_slacks = [1e300; 258];
+    let mut gen_bus = [251usize; 258];
+    let mut qmin = [1e300; 258];
+    let mut qmax = [1e300; 258];
+    let mut br_from = [251usize; 258];
+    let mut br_to = [251usize; 258];
+    let mut y_row = [251usize; 258];
+    let mut y_col = [251usize; 258];
+    let mut y_re = [1e300; 258];
+    let mut y_im = [1e300; 258];
     let v = case_text::read_case(
         text,
         &mut kind[..m],

@@ -34,13 +34,16 @@ after-b c = on-good _ (c .before .before .check-part .ensures) (c .vb .given .1)
 after-r : (c : tie.After-vr) → let b = b-of c in let x = entry b in Left x (afterR (x .args .s .now) (x .args .t) (b .vb .given .0 .0) (c .vr .given .0 .0))
 after-r c = after-b (b-of c) ∙ on-good _ (c .before .before .check-part2 .ensures) (c .vr .given .1)
 
-after-g : (c : tie.After-vg) → let r = r-of c in let b = b-of r in let x = entry b in Left x (afterG (x .args .s .now) (x .args .t) (b .vb .given .0 .0) (r .vr .given .0 .0) (c .vg .given .0 .0))
+after-g : (c : tie.After-vg)
+    → let r = r-of c in let b = b-of r in let x = entry b in Left x (afterG (x .args .s .now) (x .args .t) (b .vb .given .0 .0) (r .vr .given .0 .0) (c .vg .given .0 .0))
 after-g c = after-r (r-of c) ∙ on-good _ (c .before .before .check-part3 .ensures) (c .vg .given .1)
 
-after-l : (c : tie.After-vl) → let g = g-of c in let r = r-of g in let b = b-of r in let x = entry b in Left x (afterL (x .args .s .now) (x .args .t) (b .vb .given .0 .0) (r .vr .given .0 .0) (g .vg .given .0 .0) (c .vl .given .0 .0))
+after-l : (c : tie.After-vl)
+    → let g = g-of c in let r = r-of g in let b = b-of r in let x = entry b in Left x (afterL (x .args .s .now) (x .args .t) (b .vb .given .0 .0) (r .vr .given .0 .0) (g .vg .given .0 .0) (c .vl .given .0 .0))
 after-l c = after-g (g-of c) ∙ on-good _ (c .before .before .check-part4 .ensures) (c .vl .given .1)
 
-after-y : (c : tie.After-vy) → let l = l-of c in let g = g-of l in let r = r-of g in let b = b-of r in let x = entry b in Left x (afterY (x .args .s .now) (x .args .t) (b .vb .given .0 .0) (r .vr .given .0 .0) (g .vg .given .0 .0) (l .vl .given .0 .0) (c .vy .given .0 .0))
+after-y : (c : tie.After-vy)
+    → let l = l-of c in let g = g-of l in let r = r-of g in let b = b-of r in let x = entry b in Left x (afterY (x .args .s .now) (x .args .t) (b .vb .given .0 .0) (r .vr .given .0 .0) (g .vg .given .0 .0) (l .vl .given .0 .0) (c .vy .given .0 .0))
 after-y c = after-l (l-of c) ∙ on-good _ (c .before .before .check-part5 .ensures) (c .vy .given .1)
 
 -- ---- the ways out

@@ -36,7 +36,8 @@ abbrev sources-of : tie.After-fill-lines-arg6 → Sources
 sources-of c = c .before .before .before .before .before .before .before .before .before .before .before .before .before .before .before .before
 
 abbrev buses-of : tie.After-fill-sources-arg5 → Buses
-buses-of c = c .before .before .before .before .before .before .before .before .before .before .before .before .before .before .before .before .before .before .before .before .before
+buses-of c =
+    c .before .before .before .before .before .before .before .before .before .before .before .before .before .before .before .before .before .before .before .before .before
 
 abbrev places-of : tie.After-fill-buses-arg8 → tie.After-section-places
 places-of c = c .before .before .before .before .before .before .before .before
@@ -45,7 +46,8 @@ abbrev judged-of : Told → Judged
 judged-of c = c .before .before
 
 abbrev start-of : Judged → tie.Start
-start-of c = c .before .before .before .before .before .before .before .before .before .before .before .before .before .before .before .before .before .before .before .before .before .before .before .before .before .before .before
+start-of c =
+    c .before .before .before .before .before .before .before .before .before .before .before .before .before .before .before .before .before .before .before .before .before .before .before .before .before .before .before
 
 abbrev old : tie.Start → Columns
 old x =

@@ -10,7 +10,7 @@ use lib.Ieee.{Float}
 use lib.ListN.{length}
 use lib.Seq.{slice}
 use borrow.Author.Tests.{leb-true}
-use Rattle.real.specs.Tests.{decided, and-left, and-right}
+use Rattle.real.specs.Tests.{decided, no-case, and-left, and-right}
 use Rattle.real.specs.Paper.{Paper, given, refused, onGiven}
 use Rattle.rows.specs.Asked.{sizeOf}
 use Rattle.rows.specs.Printed.Laws.{section-rows, section-most}
@@ -43,9 +43,9 @@ with-room v m c h = go (paperOf v) refl h
     go (given d) e h =
         ⊎-elim
         (λ q. let g : v ≡ Reading.Good c = rw q at h in let i : d ≡ c = cc (ap paperOf g) in (g, rw i at q))
-        (λ q. let g : Reading.Short ≡ Reading.Good c = rw q at h in let z : _≡_ {A = ℕ} 0 1 = cc in absurd (omega arith))
+        (λ q. let g : Reading.Short ≡ Reading.Good c = rw q at h in no-case cc)
         (decided (fitsOf d m))
-    go (refused number values) e g = let z : _≡_ {A = ℕ} 0 1 = cc (ap paperOf g) in absurd (omega arith)
+    go (refused number values) e g = no-case (cc (ap paperOf g))
 
 pub fitting : (s : List ℕ) (m : Room) (c : Tables) → judgedOf s m ≡ Reading.Good c → Fitting s m c
 fitting s m c h = let e = with-room (textOf s) m c h in record { accepted = accepted-has s c (e .0); fits = e .1 }
@@ -61,7 +61,8 @@ unfolding partOf
 part-most z s t n h = section-most z (startOf z s t) (bytesOf z s t) n h
 
 -- the rows of an accepted text are within the sizes
-pub rows-most : (s : List ℕ) (t : ℕ) (c : Tables) → Accepted s t c → (c .buses ≤ 32) × (c .slacks ≤ 32) × (c .generators ≤ 32) × (c .branches ≤ 64) × (c .triplets ≤ 256)
+pub rows-most : (s : List ℕ) (t : ℕ) (c : Tables) → Accepted s t c
+    → (c .buses ≤ 32) × (c .slacks ≤ 32) × (c .generators ≤ 32) × (c .branches ≤ 64) × (c .triplets ≤ 256)
 rows-most s t c a =
     let b = a .body in
     (part-most Section.B s t _ (b .buses), part-most Section.R s t _ (b .slacks), part-most Section.G s t _ (b .generators), part-most Section.L s t _ (b .branches), part-most Section.Y s t _ (b .triplets))
@@ -149,7 +150,8 @@ unfolding writtenOf bytesOf
 written-at s t old = refl
 
 -- the columns of the same bytes
-pub same-bytes : (b r g l y b′ r′ g′ l′ y′ : List ℕ) (old : Columns) → b ≡ b′ → r ≡ r′ → g ≡ g′ → l ≡ l′ → y ≡ y′ → filledFrom b r g l y old ≡ filledFrom b′ r′ g′ l′ y′ old
+pub same-bytes : (b r g l y b′ r′ g′ l′ y′ : List ℕ) (old : Columns) → b ≡ b′ → r ≡ r′ → g ≡ g′ → l ≡ l′ → y ≡ y′
+    → filledFrom b r g l y old ≡ filledFrom b′ r′ g′ l′ y′ old
 same-bytes b r g l y b′ r′ g′ l′ y′ old p q u v w = rw (p, q, u, v, w)
 
 pub columns-same : (kind slacks genBus brFrom brTo yRow yCol kind′ slacks′ genBus′ brFrom′ brTo′ yRow′ yCol′ : List ℕ) (vmSet pd qd pg qg vmCase vaCase vaSlacks qmin qmax yRe yIm vmSet′ pd′ qd′ pg′ qg′ vmCase′ vaCase′ vaSlacks′ qmin′ qmax′ yRe′ yIm′ : List Float)

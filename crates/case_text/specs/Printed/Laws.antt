@@ -46,7 +46,8 @@ five-digits s at h =
 pub group-digits : (s : List ℕ) (at : ℕ) → isNumber (groupOf s at) ≡ true → digits (slice (at + 1) (at + 6) s) ≡ true
 group-digits s at h = five-digits s at (rw (eq-eqb (getD s at 0) 32 (group-space s at h)) at h)
 
-groups-printed : (k : ℕ) (s : List ℕ) (at low end to : ℕ) → risingOf k s at low end ≡ true → at + 6 * k ≡ to → to ≤ length s → drop at s ≡ groupsPrinted k s at ++ drop to s
+groups-printed : (k : ℕ) (s : List ℕ) (at low end to : ℕ) → risingOf k s at low end ≡ true → at + 6 * k ≡ to → to ≤ length s
+    → drop at s ≡ groupsPrinted k s at ++ drop to s
 unfolding groupsPrinted
 groups-printed zero s at low end to h e w = let q : at ≡ to = omega arith in rw q
 groups-printed (suc k) s at low end to h e w =
@@ -96,6 +97,7 @@ text-printed s c h =
     (ap (λ (n : ℕ). drop n s) (u .last) ∙ trailer-printed s t (omega (arith, a .least)) g)))))
 
 -- every field of every row is what is asked of it
-pub fields-sound : (s : List ℕ) (t n : ℕ) (z : Section) → partOf z s t ≡ Check.Good n → (k : ℕ) → k < length (rowsOf (bytesOf z s t)) → Sound z (getD (tableOf (bytesOf z s t)) k [])
+pub fields-sound : (s : List ℕ) (t n : ℕ) (z : Section) → partOf z s t ≡ Check.Good n → (k : ℕ) → k < length (rowsOf (bytesOf z s t))
+    → Sound z (getD (tableOf (bytesOf z s t)) k [])
 unfolding partOf
 fields-sound s t n z h k i = section-sound z (startOf z s t) (bytesOf z s t) n h k i

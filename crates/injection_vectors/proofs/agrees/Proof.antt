@@ -1,11 +1,13 @@
 -- `injection_vectors::agrees` meets its contract, by its four comparisons. Assumes nothing.
-use mathlib.Core.Path.{_≡_, ap}
+use mathlib.Core.Path.{ap}
 use borrow.Author.Needs.{needs}
 use borrow.Author.Tests.{not-false}
+use Rattle.vectors.specs.Words.{Tells}
+use Rattle.vectors.specs.Words.Laws.{not-told, last-told}
 use Rattle.layout.specs.Table.{Below}
 use Rattle.injections.specs.Injections.{Ybus, Good}
 use Rattle.injection_vectors.specs.Told.{ybusTold}
-use Rattle.injection_vectors.proofs.Agreement.{not-told, last-told, good}
+use Rattle.injection_vectors.proofs.Agreement.{below-told, good}
 use Rattle.injection_vectors.proofs.agrees.Statement.{statement}
 use Rattle.injection_vectors.proofs.agrees.Tie as tie
 
@@ -19,17 +21,19 @@ start-of c = entry (c .before .before .before)
 
 -- ---- the rows and columns that were compared are those told
 
-rows : (c : tie.Start) → c .args .row .now ≡ ybusTold (c .args .s .now) (c .args .m) .row
-rows c = ap (λ (y : Ybus). y .row) (c .pre .1)
+rows-told : (c : tie.After-below) → let a = entry c .args in Tells (c .below .result) (Below (a .n) (ybusTold (a .s .now) (a .m) .row))
+rows-told c = let s = entry c in below-told (s .args .n) (s .args .row .now) _ (c .below .result) (ap (λ (y : Ybus). y .row) (s .pre .1)) (c .below .ensures)
 
-cols : (c : tie.Start) → c .args .col .now ≡ ybusTold (c .args .s .now) (c .args .m) .col
-cols c = ap (λ (y : Ybus). y .col) (c .pre .1)
+cols-told : (c : tie.After-below2) → let a = entry (c .before .before) .args in Tells (c .below2 .result) (Below (a .n) (ybusTold (a .s .now) (a .m) .col))
+cols-told c =
+    let s = entry (c .before .before) in
+    below-told (s .args .n) (s .args .col .now) _ (c .below2 .result) (ap (λ (y : Ybus). y .col) (s .pre .1)) (c .below2 .ensures)
 
 rows-below : (c : tie.Else2) → let a = start-of c .args in Below (a .n) (ybusTold (a .s .now) (a .m) .row)
-rows-below c = rw (rows (start-of c)) at (c .before .before .before .below .ensures .0 (not-false _ (c .before .before .if1 .left)))
+rows-below c = rows-told (c .before .before .before) .0 (not-false _ (c .before .before .if1 .left))
 
 cols-below : (c : tie.Else2) → let a = start-of c .args in Below (a .n) (ybusTold (a .s .now) (a .m) .col)
-cols-below c = rw (cols (start-of c)) at (c .before .below2 .ensures .0 (not-false _ (c .if2 .left)))
+cols-below c = cols-told (c .before) .0 (not-false _ (c .if2 .left))
 
 checked : (c : tie.Else2) → let a = start-of c .args in Good (a .n) (ybusTold (a .s .now) (a .m))
 checked c = good _ _ _ (start-of c .pre .0 .few) (rows-below c) (cols-below c)
@@ -37,10 +41,10 @@ checked c = good _ _ _ (start-of c .pre .0 .few) (rows-below c) (cols-below c)
 -- ---- the needs
 
 returns : tie.Need-returns
-returns c = not-told _ (c .before .below .ensures) (c .if1 .taken) (λ a. rw (rows (entry (c .before))) (a .rows))
+returns c = not-told _ (rows-told (c .before)) (c .if1 .taken) (λ a. a .rows)
 
 returns-2 : tie.Need-returns-2
-returns-2 c = not-told _ (c .before .below2 .ensures) (c .if2 .taken) (λ a. rw (cols (entry (c .before .before .before))) (a .cols))
+returns-2 c = not-told _ (cols-told (c .before)) (c .if2 .taken) (λ a. a .cols)
 
 injections-agree-requires : tie.Need-injections-agree-requires
 injections-agree-requires c κs = let s = start-of c in (s .pre .0, s .pre .1, checked c)

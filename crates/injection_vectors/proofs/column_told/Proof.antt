@@ -2,8 +2,9 @@
 use mathlib.Core.Path.{sym, ap, _∙_}
 use borrow.Author.Needs.{needs}
 use borrow.Author.Tests.{not-false}
+use Rattle.vectors.specs.Words.Laws.{not-told, last-told}
 use Rattle.injections.specs.declared.Column.{Column}
-use Rattle.injection_vectors.proofs.Agreement.{not-told, last-told, column-parts}
+use Rattle.injection_vectors.proofs.Agreement.{column-parts}
 use Rattle.injection_vectors.proofs.column_told.Statement.{statement}
 use Rattle.injection_vectors.proofs.column_told.Tie as tie
 

@@ -30,7 +30,7 @@ returns c =
     let l = c .before .loop in
     let a = c .before .before .before .before .args in
     let e : l .k ≡ length (a .out .now) = omega arith in
-    l .inv .3 ∙ rw e (written-over (doubleTold (a .s .now) (a .from)) (length (a .out .now)) (a .out .now) nought refl)
+    l .inv .3 ∙ rw e (written-over (doubleTold (a .s .now) (a .from)) nought (a .out .now))
 
 pub doubles-into-spec : {M : Type 1} → statement M
 doubles-into-spec =

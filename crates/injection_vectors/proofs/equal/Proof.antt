@@ -3,12 +3,12 @@ use Prim.Native.Nat.{ℕ, _-_, _≤_, _<_}
 use mathlib.Core.Path.{_≡_, refl, sym, ap, _∙_}
 use mathlib.Core.List.{List}
 use native.Mathlib.Omega.{arith}
-use borrow.Author.Tests.{not-true, not-false}
+use borrow.Author.Tests.{not-false}
 use lib.ListN.{length, getD}
 use lib.Ieee.{Float, nan}
-use mathlib.Core.Bool.{true≢false}
 use borrow.Author.Count.{below-more}
 use lib.Seq.{ext-getD}
+use Rattle.vectors.specs.Words.Laws.{not-told}
 use Rattle.injection_vectors.proofs.equal.Statement.{statement}
 use Rattle.injection_vectors.proofs.equal.Tie as tie
 
@@ -24,10 +24,8 @@ loop-holds c = (omega arith, λ j h. absurd (omega arith))
 returns : tie.Need-returns Inv-loop μ-loop
 returns c =
     let l = c .before .before .before .loop in
-    let same = c .before .same in (
-      λ e. absurd (true≢false (sym e)),
-      λ h. absurd (true≢false (sym (same .ensures .1 (ap (λ (x : List Float). getD x (l .b) nan) h)) ∙ not-true (same .result) (c .if1 .taken))),
-    )
+    let same = c .before .same in
+    not-told (same .result) (same .ensures) (c .if1 .taken) (λ h. ap (λ (x : List Float). getD x (l .b) nan) h)
 
 loop-again : tie.Need-loop-again Inv-loop μ-loop
 loop-again c = let l = c .before .before .before .loop in (omega arith, below-more _ _ (l .inv .1) (c .before .same .ensures .0 (not-false _ (c .if1 .left))))

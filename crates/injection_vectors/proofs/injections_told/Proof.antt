@@ -2,9 +2,10 @@
 use mathlib.Core.Path.{sym, ap, _∙_}
 use borrow.Author.Needs.{needs}
 use borrow.Author.Tests.{not-false}
+use Rattle.vectors.specs.Words.Laws.{not-told, last-told}
 use Rattle.injections.specs.declared.Injections.{Injections}
 use Rattle.injection_vectors.specs.Told.{injectionsTold}
-use Rattle.injection_vectors.proofs.Agreement.{not-told, last-told, injections-parts}
+use Rattle.injection_vectors.proofs.Agreement.{injections-parts}
 use Rattle.injection_vectors.proofs.injections_told.Statement.{statement}
 use Rattle.injection_vectors.proofs.injections_told.Tie as tie
 

@@ -1,9 +1,8 @@
 -- `injection_vectors::next` meets its contract: only the last two ways tell of a point, as `point` found it. Assumes nothing.
-use mathlib.Core.Path.{sym, _∙_}
 use native.Mathlib.Omega.{arith}
 use borrow.Author.Needs.{needs}
-use mathlib.Core.Bool.{true≢false}
-use Rattle.vectors.specs.Words.Laws.{no-record}
+use Rattle.real.specs.Tests.{true-false}
+use Rattle.vectors.specs.Words.Laws.{found-agreed, found-differed, no-record}
 use Rattle.vectors.specs.Sizes.{square}
 use Rattle.injection_vectors.proofs.next.Statement.{statement}
 use Rattle.injection_vectors.proofs.next.Tie as tie
@@ -23,22 +22,14 @@ returns-6 c =
     let d = c .before .before .before .before .before .before .before .before .before .before .before in
     let m = d .before .before in
     let n = m .before .before in
-    record {
-      small = omega arith;
-      agreed = λ e. rw (← n .word .ensures, ← m .word2 .ensures, ← d .word3 .ensures) (c .before .point .ensures .0 (c .if6 .taken));
-      differed = λ e. absurd (omega arith);
-    }
+    found-agreed (rw (← n .word .ensures, ← m .word2 .ensures, ← d .word3 .ensures) (c .before .point .ensures .0 (c .if6 .taken)))
 
 returns-7 : tie.Need-returns-7
 returns-7 c =
     let d = c .before .before .before .before .before .before .before .before .before .before .before in
     let m = d .before .before in
     let n = m .before .before in
-    record {
-      small = omega arith;
-      agreed = λ e. absurd (omega arith);
-      differed = λ e a. true≢false (sym (c .before .point .ensures .1 (rw (n .word .ensures, m .word2 .ensures, d .word3 .ensures) a)) ∙ c .if6 .left);
-    }
+    found-differed (omega arith) (λ a. true-false (c .before .point .ensures .1 (rw (n .word .ensures, m .word2 .ensures, d .word3 .ensures) a)) (c .if6 .left))
 
 pub next-spec : {M : Type 1} → statement M
 next-spec =

@@ -29,7 +29,7 @@ returns c =
     let l = c .before .loop in
     let a = c .before .before .before .before .args in
     let e : l .k ≡ length (a .out .now) = omega arith in
-    l .inv .3 ∙ rw e (written-over (wordTold (a .s .now) (a .from)) (length (a .out .now)) (a .out .now) 0 refl)
+    l .inv .3 ∙ rw e (written-over (wordTold (a .s .now) (a .from)) 0 (a .out .now))
 
 pub numbers-into-spec : {M : Type 1} → statement M
 numbers-into-spec =

@@ -2,11 +2,11 @@
 use Prim.Native.Nat.{ℕ, _-_, _≤_, _<_}
 use mathlib.Core.Path.{_≡_, refl, sym, _∙_}
 use native.Mathlib.Omega.{arith}
-use borrow.Author.Tests.{not-true, not-false}
+use borrow.Author.Tests.{not-false}
 use lib.ListN.{getD}
 use lib.Ieee.{nan}
-use mathlib.Core.Bool.{true≢false}
 use borrow.Author.Count.{below-more}
+use Rattle.vectors.specs.Words.Laws.{not-told}
 use Rattle.injection_vectors.specs.Told.{placeTold}
 use Rattle.injection_vectors.proofs.space_told.Statement.{statement}
 use Rattle.injection_vectors.proofs.space_told.Tie as tie
@@ -23,10 +23,8 @@ loop-holds c = (omega arith, λ j h. absurd (omega arith))
 returns : tie.Need-returns Inv-loop μ-loop
 returns c =
     let l = c .before .before .before .before .before .loop in
-    let same = c .before .same in (
-      λ e. absurd (true≢false (sym e)),
-      λ h. absurd (true≢false (sym (same .ensures .1 (h (l .i) (omega arith) ∙ sym (c .before .before .place .ensures))) ∙ not-true (same .result) (c .if1 .taken))),
-    )
+    let same = c .before .same in
+    not-told (same .result) (same .ensures) (c .if1 .taken) (λ h. h (l .i) (omega arith) ∙ sym (c .before .before .place .ensures))
 
 loop-again : tie.Need-loop-again Inv-loop μ-loop
 loop-again c =

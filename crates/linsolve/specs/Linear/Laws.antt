@@ -16,7 +16,7 @@ use Rattle.real.specs.Tests.{cond-either}
 use Rattle.real.specs.Literals.{nought}
 use Rattle.real.specs.Real.{absolute}
 use Rattle.linsolve.specs.declared.Solution.the-variants.{Solved, Singular}
-use Rattle.linsolve.specs.Linear.{at, zeroed, clearRows, cleared, added, pivotFrom, swapped, swapRows, less, subRow, wholeRow, afterPivot, subLower, Outcome, outcome, answerOf, spaceOf, reduce, lessKnown, substitute, workedOut, sidesFrom, solution}
+use Rattle.linsolve.specs.Linear.{at, zeroed, clearRows, cleared, added, pivotFrom, swapped, swapRows, less, subRow, wholeRow, afterPivot, subLower, Outcome, outcome, answerOf, spaceOf, reduce, lessKnown, substitute, workedOut, withSides, solution}
 
 -- ---- Turns and ends
 
@@ -137,18 +137,18 @@ module _ (first : ℕ → ℕ) (dim : ℕ) (w v : List Float) where
 whole-outcome : (o : Outcome) → o ≡ outcome (answerOf o) (spaceOf o)
 whole-outcome (outcome s w) = refl
 
--- right sides taken from where the same stand change nothing
-pub sides-same : (n r : ℕ) (v w : List Float) → ((q : ℕ) → at v (4096 + q) ≡ at w (4096 + q)) → sidesFrom n r v w ≡ w
-unfolding sidesFrom
-sides-same zero r v w h = refl
-sides-same (suc n) r v w h = rw (h r, set-getD w (4096 + r) nan) (sides-same n (r + 1) v w h)
+-- right sides that stand there already change nothing
+sides-same : (n : ℕ) (f : ℕ → Float) (w : List Float) → ((r : ℕ) → f r ≡ at w (4096 + r)) → withSides n f w ≡ w
+unfolding withSides
+sides-same zero f w h = refl
+sides-same (suc k) f w h = rw (sides-same k f w h, h k) (set-getD w (4096 + k) nan)
 
 -- where the two ways agree in the answer and the right sides, the solve is ours
 pub solution-ours : (dim : ℕ) (w : List Float) → answerOf (workedOut wholeRow dim w) ≡ answerOf (workedOut afterPivot dim w)
     → ((r : ℕ) → at (spaceOf (workedOut wholeRow dim w)) (4096 + r) ≡ at (spaceOf (workedOut afterPivot dim w)) (4096 + r))
     → workedOut afterPivot dim w ≡ solution dim w
 unfolding solution
-solution-ours dim w a s = rw (a, sides-same dim 0 _ _ s) (whole-outcome (workedOut afterPivot dim w))
+solution-ours dim w a s = rw (a, sides-same dim _ _ s) (whole-outcome (workedOut afterPivot dim w))
 
 -- no unknowns: solved, and nothing touched
 pub solution-of-none : (w : List Float) → solution 0 w ≡ outcome Solved w
@@ -253,14 +253,14 @@ worked-kept dim w = go (reduce afterPivot dim 0 dim w) refl (reduce-kept dim 0 d
     go (outcome Solved v) e k = rw (← (worked-solved afterPivot dim w v e)) (kept-on k (substitute-kept dim dim v (omega arith)))
     go (outcome (Singular c) v) e k = rw (← (worked-singular afterPivot dim w v c e)) k
 
-sides-kept : (n r dim : ℕ) (v w : List Float) → r + n ≤ dim → Kept dim w (sidesFrom n r v w)
-unfolding sidesFrom
-sides-kept zero r dim v w h = kept-all dim w
-sides-kept (suc n) r dim v w h = kept-on (kept-side dim r _ w (omega arith)) (sides-kept n (r + 1) dim v _ (omega arith))
+sides-kept : (n dim : ℕ) (f : ℕ → Float) (w : List Float) → n ≤ dim → Kept dim w (withSides n f w)
+unfolding withSides
+sides-kept zero dim f w h = kept-all dim w
+sides-kept (suc k) dim f w h = kept-on (sides-kept k dim f w (omega arith)) (kept-side dim k (f k) _ h)
 
 pub solution-kept : (dim : ℕ) (w : List Float) → Kept dim w (spaceOf (solution dim w))
 unfolding solution
-solution-kept dim w = kept-on (worked-kept dim w) (sides-kept dim 0 dim _ _ (omega arith))
+solution-kept dim w = kept-on (worked-kept dim w) (sides-kept dim dim _ _ (omega arith))
 
 -- ---- What the clearing leaves: zeros
 

@@ -5,6 +5,7 @@ use native.Mathlib.Omega.{arith}
 use native.Mathlib.Numerals.{add-one}
 use borrow.Author.Needs.{needs}
 use lib.ListN.{length, length-set}
+use Rattle.linsolve.specs.Linear.{withSides}
 use Rattle.newton.specs.Newton.{sidesTo}
 use Rattle.newton.proofs.load_sides.Statement.{statement}
 use Rattle.newton.proofs.load_sides.Tie as tie
@@ -16,11 +17,11 @@ abbrev μ-loop : tie.MeasureT-loop
 μ-loop dim w₀ r k₀ w k = dim - k
 
 loop-holds : tie.Need-loop-holds Inv-loop μ-loop
-unfolding sidesTo
+unfolding withSides
 loop-holds c = search needs
 
 loop-again : tie.Need-loop-again Inv-loop μ-loop
-unfolding sidesTo
+unfolding withSides
 loop-again c = let l = c .before .loop in (omega arith, simp length-set (l .inv .1), rw (add-one, ← l .inv .2))
 
 same-length : tie.Need-same-length Inv-loop μ-loop

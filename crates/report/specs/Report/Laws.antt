@@ -63,7 +63,9 @@ pub reader-never-9 : (s : List ℕ) → judgedOf s (roomOf blank) ≡ textOf s
 reader-never-9 s = go (textOf s) (Reader.paperOf (textOf s)) refl (text-sound s)
   where
     go : (v : Reading) (p : Paper Tables) → Reader.paperOf v ≡ p → Where (Accepted s (length s - 38)) p → withRoom v (roomOf blank) ≡ v
-    go v (given c) e a = let f = rows-most s _ c a in rw (e, le-leb (c .buses) 32 (f .0), le-leb (c .slacks) 32 (f .1), le-leb (c .generators) 32 (f .2), le-leb (c .branches) 64 (f .3), le-leb (c .triplets) 256 (f .4))
+    go v (given c) e a =
+        let f = rows-most s _ c a in
+        rw (e, le-leb (c .buses) 32 (f .0), le-leb (c .slacks) 32 (f .1), le-leb (c .generators) 32 (f .2), le-leb (c .branches) 64 (f .3), le-leb (c .triplets) 256 (f .4))
     go v (refused number values) e a = rw e
 
 counted-read : (c : Tables) (read : Columns) → Few c → Full read → counted (networkOf c read) ≡ true
@@ -86,7 +88,8 @@ solve-never-7-9 c read w f g h = rw (counted-read c read f g, roomy-blanks c rea
 
 full-read : (s : List ℕ) (t : ℕ) → Full (writtenOf s t blank)
 unfolding writtenOf
-full-read s t = simp (length-sets, length-replicate) (refl, refl, refl, refl, refl, refl, refl, refl, refl, refl, refl, refl, refl, refl, refl, refl, refl, refl, refl)
+full-read s t =
+    simp (length-sets, length-replicate) (refl, refl, refl, refl, refl, refl, refl, refl, refl, refl, refl, refl, refl, refl, refl, refl, refl, refl, refl)
 
 -- what is printed of a text: its refusal, or the answer of its tables, which is refused 8, refused 10 or solved
 abbrev pub textReport : List ℕ → List Float → Reading → Report
@@ -101,13 +104,16 @@ unfolding reportOf readOf solvedOf
 report-never-7-9 s w h = (rw (reader-never-9 s) (go (textOf s) (Reader.paperOf (textOf s)) refl (text-sound s)), never-short s)
   where
     go : (v : Reading) (p : Paper Tables) → Reader.paperOf v ≡ p → Where (Accepted s (length s - 38)) p → readingOf (settledOf s v blank) w ≡ textReport s w v
-    go v (given c) e a = let read = writtenOf s (length s - 38) blank in rw e (ap (answeredOf (c .buses)) (solve-never-7-9 c read w (rows-most s _ c a) (full-read s (length s - 38)) h))
+    go v (given c) e a =
+        let read = writtenOf s (length s - 38) blank in
+        rw e (ap (answeredOf (c .buses)) (solve-never-7-9 c read w (rows-most s _ c a) (full-read s (length s - 38)) h))
     go v (refused number values) e a = rw e
 
 -- ---- the contract fixes everything
 
 -- two outcomes that meet the report's contract are equal: how many bytes, the buffer and the workspace
-pub report-one : (r : Report) (before after₁ after₂ : List ℕ) (end₁ end₂ : ℕ) (space₁ space₂ : List Float) → Reported r before end₁ after₁ space₁ → Reported r before end₂ after₂ space₂
+pub report-one : (r : Report) (before after₁ after₂ : List ℕ) (end₁ end₂ : ℕ) (space₁ space₂ : List Float) → Reported r before end₁ after₁ space₁
+    → Reported r before end₂ after₂ space₂
     → (end₁ ≡ end₂) × (after₁ ≡ after₂) × (space₁ ≡ space₂)
 report-one r before after₁ after₂ end₁ end₂ space₁ space₂ p q =
     (p .written .ends ∙ sym (q .written .ends), p .written .left ∙ sym (q .written .left), p .left ∙ sym (q .left))

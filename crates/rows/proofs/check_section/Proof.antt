@@ -1,8 +1,6 @@
 -- `rows::check_section` meets its contract: the rows left, after r, give what the whole section gives. Assumes nothing.
 use mathlib.Core.List.{[], _∷_}
-use mathlib.Core.Logic.{⊎-elim}
-use borrow.Author.Tests.{eqb-false}
-use types.Run.{OneOf}
+use types.Run.{OneOf, miss}
 use denote.Enum.Declared.{tagOf}
 use Rattle.rows.proofs.Check.{the-type}
 use Rattle.rows.specs.declared.Check.{Check}
@@ -21,7 +19,7 @@ use Rattle.rows.proofs.check_section.Tie as tie
 
 -- an answer that isn't `Good` is the section's
 kept : (v w : Check) → OneOf (1 ∷ 2 ∷ 3 ∷ []) (tagOf the-type v) → after v w ≡ v
-kept (Check.Good n) w h = absurd (⊎-elim (λ e. eqb-false 0 1 refl e) (⊎-elim (λ e. eqb-false 0 2 refl e) (λ e. eqb-false 0 3 refl e)) h)
+kept (Check.Good n) w h = absurd (miss (1 ∷ 2 ∷ 3 ∷ []) 0 tt h)
 kept (Check.Rows n) w h = refl
 kept (Check.Form n) w h = refl
 kept (Check.Field n) w h = refl

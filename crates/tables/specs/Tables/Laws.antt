@@ -84,10 +84,10 @@ ready t h k =
     let few = leb-true _ _ (both-l _ _ bus) in
     let paired = eqb-true _ _ (both-r _ _ (both-l _ _ h₃)) in
     let col : length (t .y-col) ≡ length (t .y-row) = eqb-true _ _ (both-l _ _ trip) in
-    let rows = all-below _ _ (both-l _ _ k₄) in
-    let cols = all-below _ _ (both-r _ _ k₄) in
-    let froms = all-below _ _ (both-l _ _ k₂) in
-    let tos = all-below _ _ (both-l _ _ k₃) in
+    let rows = all-below (buses t) (t .y-row) (both-l _ _ k₄) in
+    let cols = all-below (buses t) (t .y-col) (both-r _ _ k₄) in
+    let froms = all-below (buses t) (t .br-from) (both-l _ _ k₂) in
+    let tos = all-below (buses t) (t .br-to) (both-l _ _ k₃) in
     record {
       few = few;
       set-size = eqb-true _ _ (both-l _ _ three);
@@ -100,8 +100,8 @@ ready t h k =
       slack-size = eqb-true _ _ (both-r _ _ (both-l _ _ h₁));
       min-size = eqb-true _ _ (both-l _ _ gens);
       max-size = eqb-true _ _ (both-r _ _ gens);
-      slacks-below = all-below _ _ (both-l _ _ k);
-      gens-below = all-below _ _ (both-l _ _ k₁);
+      slacks-below = all-below (buses t) (t .slacks) (both-l _ _ k);
+      gens-below = all-below (buses t) (t .gen-bus) (both-l _ _ k₁);
       ends = record { paired = sym paired; below = λ i p. (froms i p, tos i (omega arith)) };
       triplets = record {
         few = few;

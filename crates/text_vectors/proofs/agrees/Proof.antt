@@ -1,11 +1,11 @@
--- `text_vectors::agrees` meets its contract: the first places of columns of sevens are lent to the reader, and then compared. Assumes nothing.
+-- `text_vectors::agrees` meets its contract: the first places of columns of marks are lent to the reader, and then compared. Assumes nothing.
 use mathlib.Core.Path.{refl, ap, _∙_}
 use Prim.Native.Nat.{ℕ, min}
 use borrow.Author.Needs.{needs}
 use borrow.Author.Tests.{ltb-true}
 use Rattle.real.specs.Literals.{lit}
 use Rattle.text_vectors.proofs.Telling.{cut, cut-length}
-use Rattle.text_vectors.proofs.Parts.{Lent, shared, shared-length, tested, compared, of-sevens}
+use Rattle.text_vectors.proofs.Parts.{Lent, shared, shared-length, tested, compared, of-marks}
 use Rattle.text_vectors.proofs.agrees.Statement.{statement}
 use Rattle.text_vectors.proofs.agrees.Tie as tie
 
@@ -140,9 +140,9 @@ r18 c = r17 (c .before .before)
 
 lent : (r : tie.After-read-case) →
     let m = width-of r .least .result in
-    let x = lit 0x401c_0000_0000_0000 in
+    let x = lit 0x7e37_e43c_8800_759c in
     let l = r .read-case .last .1 in
-    Lent m 7 (l .0)
+    Lent m 251 (l .0)
     × Lent m x (l .1 .0)
     × Lent m x (l .1 .1 .0)
     × Lent m x (l .1 .1 .1 .0)
@@ -150,15 +150,15 @@ lent : (r : tie.After-read-case) →
     × Lent m x (l .1 .1 .1 .1 .1 .0)
     × Lent m x (l .1 .1 .1 .1 .1 .1 .0)
     × Lent m x (l .1 .1 .1 .1 .1 .1 .1 .0)
-    × Lent m 7 (l .1 .1 .1 .1 .1 .1 .1 .1 .0)
+    × Lent m 251 (l .1 .1 .1 .1 .1 .1 .1 .1 .0)
     × Lent m x (l .1 .1 .1 .1 .1 .1 .1 .1 .1 .0)
-    × Lent m 7 (l .1 .1 .1 .1 .1 .1 .1 .1 .1 .1 .0)
+    × Lent m 251 (l .1 .1 .1 .1 .1 .1 .1 .1 .1 .1 .0)
     × Lent m x (l .1 .1 .1 .1 .1 .1 .1 .1 .1 .1 .1 .0)
     × Lent m x (l .1 .1 .1 .1 .1 .1 .1 .1 .1 .1 .1 .1 .0)
-    × Lent m 7 (l .1 .1 .1 .1 .1 .1 .1 .1 .1 .1 .1 .1 .1 .0)
-    × Lent m 7 (l .1 .1 .1 .1 .1 .1 .1 .1 .1 .1 .1 .1 .1 .1 .0)
-    × Lent m 7 (l .1 .1 .1 .1 .1 .1 .1 .1 .1 .1 .1 .1 .1 .1 .1 .0)
-    × Lent m 7 (l .1 .1 .1 .1 .1 .1 .1 .1 .1 .1 .1 .1 .1 .1 .1 .1 .0)
+    × Lent m 251 (l .1 .1 .1 .1 .1 .1 .1 .1 .1 .1 .1 .1 .1 .0)
+    × Lent m 251 (l .1 .1 .1 .1 .1 .1 .1 .1 .1 .1 .1 .1 .1 .1 .0)
+    × Lent m 251 (l .1 .1 .1 .1 .1 .1 .1 .1 .1 .1 .1 .1 .1 .1 .1 .0)
+    × Lent m 251 (l .1 .1 .1 .1 .1 .1 .1 .1 .1 .1 .1 .1 .1 .1 .1 .1 .0)
     × Lent m x (l .1 .1 .1 .1 .1 .1 .1 .1 .1 .1 .1 .1 .1 .1 .1 .1 .1 .0)
     × Lent m x (l .1 .1 .1 .1 .1 .1 .1 .1 .1 .1 .1 .1 .1 .1 .1 .1 .1 .1 .0)
 lent r =
@@ -211,7 +211,7 @@ returns c =
     let start = start-of r .args in
     let width = width-of r .least .ensures .0 ∙ ap (λ (n : ℕ). min n 258) (width-of r .before .pair .ensures .0) in
     let w = lent r in
-    of-sevens (start .text .now) (start .s .now) (cut 258 _ _ h) (cut 258 _ _ h) width
+    of-marks (start .text .now) (start .s .now) (cut 258 _ _ h) (cut 258 _ _ h) width
     (compared (start .text .now) (start .s .now) _ _ (r .read-case .ensures) (v .answered .ensures)
     (tested (w .0) _ (c0 .kinds .ensures))
     (tested (w .1) _ (c1 .reals .ensures))

@@ -5,7 +5,10 @@ use Rattle.text_vectors.proofs.answered.Statement.{statement}
 use Rattle.text_vectors.proofs.answered.Tie as tie
 
 refused-requires : tie.Need-refused-requires
-refused-requires c κs = (rw (c .before .number .ensures) (refusal-number (c .before .before .before .before .args .v) (c .before .before .match .keys2)), c .before .before .before .before .pre)
+refused-requires c κs = (
+  rw (c .before .number .ensures) (refusal-number (c .before .before .before .before .args .v) (c .before .before .match .keys2)),
+  c .before .before .before .before .pre,
+)
 
 returns : tie.Need-returns
 returns c =

@@ -1,10 +1,10 @@
 -- `text_vectors::next` meets its contract: only the last two ways tell of a text, as `agrees` found it. Assumes nothing.
-use mathlib.Core.Path.{sym, _∙_}
-use mathlib.Core.Bool.{true≢false}
+use mathlib.Core.Path.{sym}
 use native.Mathlib.Omega.{arith}
 use borrow.Author.Needs.{needs}
 use lib.Seq.{length-take-le}
-use Rattle.vectors.specs.Words.Laws.{no-record}
+use Rattle.real.specs.Tests.{true-false}
+use Rattle.vectors.specs.Words.Laws.{found-agreed, found-differed, no-record}
 use Rattle.text_vectors.proofs.next.Statement.{statement}
 use Rattle.text_vectors.proofs.next.Tie as tie
 
@@ -23,16 +23,12 @@ slice-aggregate-agrees c = sym (length-take-le _ _ (omega arith))
 returns-4 : tie.Need-returns-4
 returns-4 c =
     let pair = c .before .before .before .before .before .before .before .before .before .before .before .before .before .before .before .before .pair .ensures .0 in
-    record { small = omega arith; agreed = λ e. rw pair at (c .before .agrees .ensures .0 (c .if4 .taken)); differed = λ e. absurd (omega arith) }
+    found-agreed (rw pair at (c .before .agrees .ensures .0 (c .if4 .taken)))
 
 returns-5 : tie.Need-returns-5
 returns-5 c =
     let pair = c .before .before .before .before .before .before .before .before .before .before .before .before .before .before .before .before .pair .ensures .0 in
-    record {
-      small = omega arith;
-      agreed = λ e. absurd (omega arith);
-      differed = λ e a. true≢false (sym ((rw pair at (c .before .agrees .ensures .1)) a) ∙ c .if4 .left);
-    }
+    found-differed (omega arith) (λ a. true-false ((rw pair at (c .before .agrees .ensures .1)) a) (c .if4 .left))
 
 pub next-spec : {M : Type 1} → statement M
 next-spec =

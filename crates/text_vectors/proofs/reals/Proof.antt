@@ -1,14 +1,15 @@
 -- `text_vectors::reals` meets its contract. The invariant: every place passed holds what is told. Assumes nothing.
 use mathlib.Core.Path.{_≡_, refl, sym, ap, _∙_}
-use mathlib.Core.Bool.{true≢false}
 use Prim.Native.Nat.{ℕ, _-_, _≤_, _<_}
 use native.Mathlib.Omega.{arith}
 use borrow.Author.Count.{below-more}
-use borrow.Author.Tests.{not-true, not-false}
+use borrow.Author.Tests.{not-false}
 use lib.ListN.{length, getD}
 use lib.Ieee.{nan, binary64, ofBits}
+use Rattle.real.specs.Each.Laws.{is-each}
+use Rattle.vectors.specs.Words.Laws.{not-told}
 use Rattle.text_vectors.specs.Told.{wordTold}
-use Rattle.text_vectors.proofs.Telling.{never, all-told, told-at}
+use Rattle.text_vectors.proofs.Telling.{told-at}
 use Rattle.text_vectors.proofs.reals.Statement.{statement}
 use Rattle.text_vectors.proofs.reals.Tie as tie
 
@@ -25,7 +26,7 @@ returns : tie.Need-returns Inv-loop μ-loop
 returns c =
     let same = c .before .same in
     let told = c .before .before .double .ensures ∙ ap (ofBits binary64) (c .before .before .before .told .ensures) in
-    never (λ e. true≢false (sym (same .ensures .1 (told-at nan _ _ e _ (omega arith) ∙ sym told)) ∙ not-true (same .result) (c .if1 .taken)))
+    not-told (same .result) (same .ensures) (c .if1 .taken) (λ e. told-at nan _ _ e _ (omega arith) ∙ sym told)
 
 loop-again : tie.Need-loop-again Inv-loop μ-loop
 loop-again c =
@@ -35,7 +36,7 @@ loop-again c =
     (omega arith, below-more _ _ (s .loop .inv .1) (same ∙ told))
 
 returns-2 : tie.Need-returns-2 Inv-loop μ-loop
-returns-2 c = (λ e. all-told nan _ _ (λ i h. c .before .loop .inv .1 i (omega arith)), λ e. refl)
+returns-2 c = (λ e. is-each _ _ nan _ refl (λ i h. c .before .loop .inv .1 i (omega arith)), λ e. refl)
 
 pub reals-spec : {M : Type 1} → statement M
 reals-spec =

@@ -1,13 +1,13 @@
 -- `text_vectors::refused` meets its contract: the number is compared, and the place of all but refusal 9. Assumes nothing.
 use mathlib.Core.Path.{refl, sym, _∙_}
 use borrow.Author.Needs.{needs}
-use Rattle.text_vectors.proofs.Telling.{never}
+use Rattle.vectors.specs.Words.Laws.{never-told}
 use Rattle.text_vectors.proofs.Papers.{same-number, nine-told, place-told}
 use Rattle.text_vectors.proofs.refused.Statement.{statement}
 use Rattle.text_vectors.proofs.refused.Tie as tie
 
 returns : tie.Need-returns
-returns c = let pair = c .before .pair .ensures .0 in never (λ e. c .if1 .taken (pair ∙ sym (same-number _ _ _ _ _ e)))
+returns c = let pair = c .before .pair .ensures .0 in never-told (λ e. c .if1 .taken (pair ∙ sym (same-number _ _ _ _ _ e)))
 
 returns-2 : tie.Need-returns-2
 returns-2 c =
