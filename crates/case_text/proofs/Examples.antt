@@ -22,7 +22,7 @@ use Rattle.case_text.specs.Text.{partOf, bodyOf, textOf}
 use Rattle.case_text.specs.Answer.{Columns, columns, roomOf, fitsOf, outcome, filledFrom, writtenOf, readOf}
 use Rattle.case_text.specs.Answer.Laws.{same-bytes, columns-same}
 use Rattle.case_text.specs.declared.Tables.{Tables}
-use Rattle.trailer.specs.declared.Start.the-variants as Start
+use Rattle.starts.specs.declared.AcStart.the-variants.{Flat}
 use Rattle.case_text.specs.declared.Reading.the-variants as Reading
 
 -- the listing of 01, "One listing in full": 73 bytes
@@ -31,7 +31,7 @@ listing =
     66 ∷ 32 ∷ 81 ∷ 32 ∷ 49 ∷ 32 ∷ 48 ∷ 32 ∷ 48 ∷ 32 ∷ 48 ∷ 32 ∷ 48 ∷ 32 ∷ 63 ∷ 32 ∷ 63 ∷ 10 ∷ 82 ∷ 32 ∷ 48 ∷ 32 ∷ 48 ∷ 10 ∷ 89 ∷ 32 ∷ 48 ∷ 32 ∷ 48 ∷ 32 ∷ 50 ∷ 32 ∷ 45 ∷ 56 ∷ 10 ∷ 70 ∷ 32 ∷ 48 ∷ 48 ∷ 48 ∷ 48 ∷ 48 ∷ 32 ∷ 48 ∷ 48 ∷ 48 ∷ 49 ∷ 56 ∷ 32 ∷ 48 ∷ 48 ∷ 48 ∷ 50 ∷ 52 ∷ 32 ∷ 48 ∷ 48 ∷ 48 ∷ 50 ∷ 52 ∷ 32 ∷ 48 ∷ 48 ∷ 48 ∷ 50 ∷ 52 ∷ 32 ∷ 48 ∷ 48 ∷ 48 ∷ 51 ∷ 53 ∷ 10 ∷ []
 
 abbrev pub listing-tables : Tables
-listing-tables = record { start = Start.Flat; buses = 1; slacks = 1; generators = 0; branches = 0; triplets = 1 }
+listing-tables = record { start = Flat; buses = 1; slacks = 1; generators = 0; branches = 0; triplets = 1 }
 
 pub listing-text : textOf listing ≡ Reading.Good listing-tables
 unfolding bytesOf partOf bodyOf trailerOf risingOf knownOf sectionOf fieldsOf allSome pieces upto past has digits number amountOf
@@ -128,7 +128,7 @@ minus-text =
 
 pub minus-read : (i j : ℕ) (u v : Float)
     → readOf minus-text (columns [] [] [] [] [] [] [] [] (i ∷ j ∷ []) (u ∷ v ∷ []) [] [] [] [] [] [] [] [] [])
-    ≡ outcome (given (record { start = Start.Flat; buses = 0; slacks = 2; generators = 0; branches = 0; triplets = 0 }))
+    ≡ outcome (given (record { start = Flat; buses = 0; slacks = 2; generators = 0; branches = 0; triplets = 0 }))
     (columns [] [] [] [] [] [] [] [] (0 ∷ 1 ∷ []) (lit 0x8000_0000_0000_0000 ∷ lit 0xbfd0_0000_0000_0000 ∷ []) [] [] [] [] [] [] [] [] [])
 unfolding readOf writtenOf bytesOf partOf bodyOf trailerOf risingOf knownOf sectionOf ended fieldsOf allSome pieces upto past has digits number amountOf ofBits div neg ofInt
 minus-read i j u v = refl

@@ -1,4 +1,5 @@
 // The case text: its length, its trailer, its alphabet, its sections in turn, and then its columns.
+use starts::AcStart;
 ghost use mathlib.Core.Path.{_≡_};
 ghost use mathlib.Core.Bool.{true};
 ghost use Prim.Native.Nat.{_+_, _≤_, min};
@@ -12,7 +13,7 @@ ghost use Rattle.case_text.specs.Answer.{columns, outcome, paperOf, read
 
 // What a good text holds: its start, and the rows of each table.
 pub struct Tables {
-    pub start: trailer::Start,
+    pub start: AcStart,
     pub buses: usize,
     pub slacks: usize,
     pub generators: usize,

@@ -10,7 +10,7 @@ use lib.Ieee.{Float, nan, ofBits, lt}
 use Rattle.real.specs.Any.{anyBelow}
 use Rattle.real.specs.Literals.{nought, one}
 use Rattle.layout.specs.Table.{Below}
-use Rattle.pf_ac.specs.declared.AcStart.the-variants.{Flat}
+use Rattle.starts.specs.declared.AcStart.the-variants.{Flat}
 use Rattle.pf_ac.specs.Network.{Network, network, Ready}
 use Rattle.pf_ac.specs.Network.Withheld.{Alike}
 

@@ -19,7 +19,7 @@ use Rattle.starts.specs.References.{referencesOf}
 use Rattle.starts.specs.Starts.{flatOf}
 use Rattle.injections.specs.Injections.{Ybus, ybus, Good}
 use Rattle.qlim.specs.Rounds.{Study, study}
-use Rattle.pf_ac.specs.declared.AcStart.{AcStart}
+use Rattle.starts.specs.declared.AcStart.{AcStart}
 use Rattle.pf_ac.specs.Search.{Searched, firstOf, searchOf}
 
 pub record Network : Type 0 where

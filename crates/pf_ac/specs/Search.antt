@@ -14,8 +14,8 @@ use Rattle.starts.specs.declared.References.{References}
 use Rattle.starts.specs.Starts.{caseOf, fromFlat}
 use Rattle.qlim.specs.declared.Settled.{Settled}
 use Rattle.qlim.specs.Rounds.{Study, Done, settledOf, spaceDone, qlimOf}
-use Rattle.pf_ac.specs.declared.AcStart.{AcStart}
-use Rattle.pf_ac.specs.declared.AcStart.the-variants.{Flat, Case}
+use Rattle.starts.specs.declared.AcStart.{AcStart}
+use Rattle.starts.specs.declared.AcStart.the-variants.{Flat, Case}
 use Rattle.pf_ac.specs.declared.AcPf.{AcPf}
 use Rattle.pf_ac.specs.declared.AcPf.the-variants.{Solved, NotConverged}
 

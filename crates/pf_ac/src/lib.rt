@@ -4,6 +4,7 @@ use layout::Limits;
 use layout::Point;
 use qlim::Settled;
 use real::TOL;
+use starts::AcStart;
 use starts::References;
 ghost use mathlib.Core.Path.{_≡_};
 ghost use mathlib.Core.Bool.{cond};
@@ -18,12 +19,6 @@ ghost use Rattle.qlim.specs.Rounds as Rounds;
 ghost use Rattle.starts.specs.References.{Slacks};
 ghost use Rattle.pf_ac.specs.Search.{betterOf, firstOf, startOf, countOf, searched, judgedOf, searchOf};
 ghost use Rattle.pf_ac.specs.Network.{network, Ready, acPfOf};
-
-// Where the iteration starts: flat, or the stored case state first.
-pub enum AcStart {
-    Flat,
-    Case,
-}
 
 // Solved with its residual, or not converged with the best mismatch.
 pub enum AcPf {

@@ -9,32 +9,20 @@ use Rattle.real.specs.Paper.{Paper, given, refused}
 use Rattle.real.specs.Literals.{nought}
 use Rattle.case_text.specs.declared.Tables.{Tables}
 use Rattle.case_text.specs.declared.Reading.{Reading}
-use Rattle.trailer.specs.declared.Start.{Start}
-use Rattle.trailer.specs.declared.Start.the-variants as Start
 use Rattle.case_text.specs.Answer as Reader
 use Rattle.case_text.specs.Answer.{Columns, columns, readOf}
-use Rattle.pf_ac.specs.declared.AcStart.{AcStart}
-use Rattle.pf_ac.specs.declared.AcStart.the-variants as AcStart
 use Rattle.pf_ac.specs.Network.{Network, network}
 use Rattle.tables.specs.Tables.{Outs, outs, Answer, solveOf}
 use Rattle.lines.specs.Lines.{okOf, busesOf, refusedOf, Wrote}
 
 -- ---- from the reader to the solve
 
--- F is the flat start, C the case start
-abbrev pub startOf : Start → AcStart
-startOf Start.Flat = AcStart.Flat
-startOf Start.Case = AcStart.Case
-
 -- the tables of a good text: of each column one place per row
-abbrev pub networkBy : Tables → Columns → AcStart → Network
-networkBy c (columns kind vmSet pd qd pg qg vmCase vaCase slacks vaSlacks genBus qmin qmax brFrom brTo yRow yCol yRe yIm) start =
+abbrev pub networkOf : Tables → Columns → Network
+networkOf c (columns kind vmSet pd qd pg qg vmCase vaCase slacks vaSlacks genBus qmin qmax brFrom brTo yRow yCol yRe yIm) =
     network (take (c .buses) kind) (take (c .buses) vmSet) (take (c .buses) pd) (take (c .buses) qd) (take (c .buses) pg) (take (c .buses) qg) (take (c .buses) vmCase) (take (c .buses) vaCase)
     (take (c .slacks) slacks) (take (c .slacks) vaSlacks) (take (c .generators) genBus) (take (c .generators) qmin) (take (c .generators) qmax)
-    (take (c .branches) brFrom) (take (c .branches) brTo) (take (c .triplets) yRow) (take (c .triplets) yCol) (take (c .triplets) yRe) (take (c .triplets) yIm) start
-
-abbrev pub networkOf : Tables → Columns → Network
-networkOf c read = networkBy c read (startOf (c .start))
+    (take (c .branches) brFrom) (take (c .branches) brTo) (take (c .triplets) yRow) (take (c .triplets) yCol) (take (c .triplets) yRe) (take (c .triplets) yIm) (c .start)
 
 -- columns of each table's full size, for the reader and for the answer
 abbrev pub blank : Columns

@@ -1,9 +1,7 @@
 // The report: from the bytes of a case text to the bytes that the solve program prints.
 use case_text::Reading;
 use case_text::Tables;
-use pf_ac::AcStart;
 use tables::Outcome;
-use trailer::Start;
 ghost use mathlib.Core.Path.{_≡_};
 ghost use Prim.Native.Nat.{_≤_};
 ghost use lib.ListN.{length};
@@ -11,16 +9,7 @@ ghost use Rattle.io.specs.Counts.{Counts};
 ghost use Rattle.case_text.specs.Answer.{columns};
 ghost use Rattle.tables.specs.Tables.{outs, paperOf};
 ghost use Rattle.lines.specs.Lines.{Wrote};
-ghost use Rattle.report.specs.Report.{startOf, Few, Full, refusalOf, printedOf, solvedOf, reportOf, Reported};
-
-fn start_of(s: Start) -> AcStart
-    ensures { λ r. ⌜ r ≡ startOf s ⌝ }
-{
-    match s {
-        Start::Flat => AcStart::Flat,
-        Start::Case => AcStart::Case,
-    }
-}
+ghost use Rattle.report.specs.Report.{Few, Full, refusalOf, printedOf, solvedOf, reportOf, Reported};
 
 // What is printed of a text that the reader refuses.
 fn put_reading(r: Reading, out: &mut [u8]) -> usize
@@ -132,7 +121,7 @@ fn put_solved(
         &y_col[..y],
         &y_re[..y],
         &y_im[..y],
-        start_of(start),
+        start,
         vm,
         va,
         p,

@@ -1,4 +1,4 @@
-// Of pf_ac.rs: island_references, case_start and the other starts of ac_pf_with_start.
+// Of pf_ac.rs: AcStart, island_references, case_start and the other starts of ac_pf_with_start.
 use layout::BusKind;
 use layout::Point;
 ghost use mathlib.Core.Path.{_≡_};
@@ -8,6 +8,12 @@ ghost use Rattle.layout.specs.Table.{Below};
 ghost use Rattle.islands.specs.Islands.{Ends};
 ghost use Rattle.starts.specs.References.{Numbered, Slacks, byIsland, referencesOf};
 ghost use Rattle.starts.specs.Starts.{finiteOr, magnitudeFor, slackAngle, angleFor, caseOf, flatOf, nudged, scaled, perturbedOf, fromFlat};
+
+// Where the iteration starts: flat, or the stored case state first.
+pub enum AcStart {
+    Flat,
+    Case,
+}
 
 // Of each bus: the slack of its island, 32 where there is none, and the reference angle.
 pub struct References {

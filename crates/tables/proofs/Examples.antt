@@ -26,8 +26,8 @@ use Rattle.starts.specs.Starts.{caseOf, flatOf}
 use Rattle.pf_ac.specs.Network.{Network, network, acPfOf}
 use Rattle.pf_ac.specs.Search.{startOf, betterOf, tryOf, searchFrom, searchOf}
 use Rattle.tables.specs.Tables.{Outs, outs, answer, ok, counted, roomy, numbered, writtenOf, zeros, ranOf, solveOf}
-use Rattle.pf_ac.specs.declared.AcStart.{AcStart}
-use Rattle.pf_ac.specs.declared.AcStart.the-variants.{Flat, Case}
+use Rattle.starts.specs.declared.AcStart.{AcStart}
+use Rattle.starts.specs.declared.AcStart.the-variants.{Flat, Case}
 
 abbrev pub listing : Network
 listing =

@@ -1,7 +1,7 @@
 // The solve over tables: the public call. Counts, lengths and bus numbers are checked, in that order, before anything is written.
 use pf_ac::AcPf;
-use pf_ac::AcStart;
 use qlim::Settled;
+use starts::AcStart;
 ghost use mathlib.Core.Path.{_≡_};
 ghost use Prim.Native.Nat.{_≤_};
 ghost use lib.ListN.{length, getD};

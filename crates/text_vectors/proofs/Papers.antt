@@ -15,24 +15,24 @@ use Rattle.trailer.specs.Trailer.{modeOf}
 use Rattle.case_text.specs.Answer.{paperOf}
 use Rattle.case_text.specs.declared.Tables.{Tables}
 use Rattle.case_text.specs.declared.Reading.{Reading}
-use Rattle.trailer.specs.declared.Start.{Start}
-use Rattle.trailer.specs.declared.Start.the-variants as Start
+use Rattle.starts.specs.declared.AcStart.{AcStart}
+use Rattle.starts.specs.declared.AcStart.the-variants.{Flat, Case}
 use Rattle.case_text.proofs.Refusals.{Refused, refused-paper}
 use Rattle.text_vectors.specs.Told.{numberIn, placeOf, refusal, answer, rowsTold, tablesTold, paperTold}
 
 -- ---- the start
 
-abbrev isFlat : Start → Bool
-isFlat Start.Flat = true
-isFlat Start.Case = false
+abbrev isFlat : AcStart → Bool
+isFlat Flat = true
+isFlat Case = false
 
 flat-mode : (n : ℕ) → isFlat (modeOf n) ≡ eqb n 70
 flat-mode n = ⊎-elim (λ e. rw e) (λ e. rw e) (decided (eqb n 70))
 
-pub flat-told : (n : ℕ) → Tells (eqb n 70) (Start.Flat ≡ modeOf n)
+pub flat-told : (n : ℕ) → Tells (eqb n 70) (Flat ≡ modeOf n)
 flat-told n = (λ e. rw e, λ e. sym (flat-mode n) ∙ sym (ap isFlat e))
 
-pub case-told : (n : ℕ) → Tells (not (eqb n 70)) (Start.Case ≡ modeOf n)
+pub case-told : (n : ℕ) → Tells (not (eqb n 70)) (Case ≡ modeOf n)
 case-told n = (λ e. rw (not-true (eqb n 70) e), λ e. rw (sym (flat-mode n) ∙ sym (ap isFlat e)))
 
 -- ---- a refusal

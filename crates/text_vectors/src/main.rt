@@ -9,6 +9,7 @@ ghost use Rattle.real.specs.Paper.{given};
 ghost use Rattle.case_text.specs.Answer.{paperOf};
 ghost use Rattle.text_vectors.specs.Told.{numberIn, placeOf, refusal, rowsTold, paperTold, wordTold, numbersTold, realsTold, Agrees};
 use libc::STDIN_FILENO;
+use starts::AcStart;
 
 // The record is s throughout, and j counts the columns in read_case's order.
 
@@ -117,10 +118,10 @@ fn refused(s: &[u8], n: usize, at: usize) -> bool
     at == vectors::pair(s, 2)
 }
 
-fn starts(m: trailer::Start, letter: usize) -> bool
+fn starts(m: AcStart, letter: usize) -> bool
     ensures { λ r. ⌜ Tells r (m ≡ modeOf letter) ⌝ }
 {
-    let trailer::Start::Flat = m else {
+    let AcStart::Flat = m else {
         return letter != 70;
     };
     letter == 70

@@ -12,8 +12,8 @@ use Rattle.fields.specs.declared.Digits.the-variants as Digits
 use Rattle.rows.specs.declared.Section.{Section}
 use Rattle.rows.specs.declared.Section.the-variants as Section
 use Rattle.trailer.specs.declared.Places.{Places}
-use Rattle.trailer.specs.declared.Start.{Start}
-use Rattle.trailer.specs.declared.Start.the-variants as Start
+use Rattle.starts.specs.declared.AcStart.{AcStart}
+use Rattle.starts.specs.declared.AcStart.the-variants.{Flat, Case}
 
 -- "a space and five digits", at a place
 abbrev pub groupOf : List ℕ → ℕ → Digits
@@ -31,8 +31,8 @@ risingOf (suc k) s at low end = isNumber (groupOf s at) && (leb low (startAt s a
 abbrev pub flagged : ℕ → Bool
 flagged b = eqb b 70 || eqb b 67
 
-abbrev pub modeOf : ℕ → Start
-modeOf b = cond (eqb b 70) Start.Flat Start.Case
+abbrev pub modeOf : ℕ → AcStart
+modeOf b = cond (eqb b 70) Flat Case
 
 -- "the first is 0, they never fall, the last is the length less 38", which is t; what breaks this is refusal 2
 unfoldable pub trailerOf : List ℕ → ℕ → Bool

@@ -1,16 +1,11 @@
 // The trailer of a case text: which start it asks for, and where its sections stand.
 use fields::Digits;
 use rows::Section;
+use starts::AcStart;
 ghost use mathlib.Core.Path.{_≡_};
 ghost use Prim.Native.Nat.{_+_, _-_, _*_, _≤_};
 ghost use lib.ListN.{length};
 ghost use Rattle.trailer.specs.Trailer.{groupOf, startAt, risingOf, flagged, modeOf, trailerOf, offsetOf, startOf, endOf, placesOf};
-
-// Which start a text asks for.
-pub enum Start {
-    Flat,
-    Case,
-}
 
 // Where the sections start, and the trailer.
 pub struct Places {
@@ -99,13 +94,13 @@ fn is_flag(b: u8) -> bool
     b == b'C'
 }
 
-pub fn mode(b: u8) -> Start
+pub fn mode(b: u8) -> AcStart
     ensures { λ r. ⌜ r ≡ modeOf b ⌝ }
 {
     if b == b'F' {
-        return Start::Flat;
+        return AcStart::Flat;
     }
-    Start::Case
+    AcStart::Case
 }
 
 // Whether the 38 bytes from t on are a trailer.

@@ -21,8 +21,8 @@ use Rattle.layout.specs.Limits.Laws.{qmin-at, qmax-at, sum-unread}
 use Rattle.qlim.specs.declared.Settled.{Settled}
 use Rattle.qlim.specs.Rounds.{Study, qlimOf}
 use Rattle.qlim.specs.Rounds.Unread.{AlikeStudies, rounds-unread}
-use Rattle.pf_ac.specs.declared.AcStart.{AcStart}
-use Rattle.pf_ac.specs.declared.AcStart.the-variants.{Flat}
+use Rattle.starts.specs.declared.AcStart.{AcStart}
+use Rattle.starts.specs.declared.AcStart.the-variants.{Flat}
 use Rattle.pf_ac.specs.Search.{startOf, tryOf, searchFrom, countOf, nothing, searchOf}
 use Rattle.pf_ac.specs.Network.{Network, network, buses, columnOf, kindsFor, studyFor, flatFor, firstFor, acPfOf}
 

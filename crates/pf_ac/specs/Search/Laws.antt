@@ -12,8 +12,8 @@ use Rattle.layout.specs.declared.Point.{Point}
 use Rattle.starts.specs.Starts.{fromFlat}
 use Rattle.qlim.specs.declared.Settled.{Settled}
 use Rattle.qlim.specs.Rounds.{Study, Done, done, qlimOf}
-use Rattle.pf_ac.specs.declared.AcStart.{AcStart}
-use Rattle.pf_ac.specs.declared.AcStart.the-variants.{Flat, Case}
+use Rattle.starts.specs.declared.AcStart.{AcStart}
+use Rattle.starts.specs.declared.AcStart.the-variants.{Flat, Case}
 use Rattle.pf_ac.specs.declared.AcPf.{AcPf}
 use Rattle.pf_ac.specs.declared.AcPf.the-variants.{Solved, NotConverged}
 use Rattle.pf_ac.specs.Search.{startOf, countOf, betterOf, Searched, searched, solved, judgedOf, tryOf, searchFrom, nothing, searchOf}

@@ -70,7 +70,7 @@ s18 c = s17 (c .before)
 put-outcome-requires : tie.Need-put-outcome-requires
 put-outcome-requires c κs =
     let v = c .before .before .before .before .before .before .before .before .before .before .before .before .before .before .before .before .before .before in
-    let s = s18 (v .before .before .before .before .before .before .before .before) in
+    let s = s18 (v .before .before .before .before .before .before .before) in
     let k = v .solve .kept .1 .1 .1 .1 .1 .1 .1 .1 .1 .1 .1 .1 .1 .1 .1 .1 .1 .1 .1 .1 in
     let n = s .pre .0 .0 in (
       n,
@@ -86,8 +86,7 @@ returns : tie.Need-returns
 returns c =
     let p = c .before .before .before .before .before .before .before in
     let v = p .before .before .before .before .before .before .before .before .before .before .before .before .before .before .before .before .before .before .before in
-    let t = v .before .before .before .before .before .before .before in
-    (solved-is _ _ _ _ _ (v .solve .result) _ (t .start-of .ensures) (v .solve .ensures) (p .put-outcome .ensures .0), p .put-outcome .ensures .1)
+    (solved-is _ _ _ _ (v .solve .result) _ (v .solve .ensures) (p .put-outcome .ensures .0), p .put-outcome .ensures .1)
 
 pub put-solved-spec : {M : Type 1} → statement M
 put-solved-spec =
@@ -117,7 +116,6 @@ put-solved-spec =
     (λ c. let s = s16 c in cut _ _ _ (s .pre .0 .4) (s .pre .1 .16))
     (λ c. let s = s17 c in cut _ _ _ (s .pre .0 .4) (s .pre .1 .17))
     (λ c. let s = s18 c in cut _ _ _ (s .pre .0 .4) (s .pre .1 .18))
-    (λ c κs. search needs)
     (λ c κs. search needs)
     put-outcome-requires
     (λ c. omega arith)

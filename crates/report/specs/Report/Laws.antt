@@ -18,27 +18,23 @@ use Rattle.case_text.specs.Text.{textOf}
 use Rattle.case_text.specs.Text.Laws.{Accepted, Where, text-sound, never-short}
 use Rattle.case_text.specs.Answer.{Columns, columns, roomOf, fitsOf, withRoom, judgedOf, writtenOf, settledOf, readOf}
 use Rattle.case_text.specs.Answer.Laws.{rows-most}
-use Rattle.pf_ac.specs.declared.AcStart.{AcStart}
 use Rattle.tables.specs.declared.Outcome.{Outcome}
 use Rattle.pf_ac.specs.Network.Withheld.{Alike}
 use Rattle.tables.specs.Tables.Withheld.{solve-withheld}
 use Rattle.pf_ac.specs.Network.{acPfOf}
 use Rattle.tables.specs.Tables.{Outs, counted, roomy, numbered, Answer, answer, paperOf, ranOf, solveOf}
 use Rattle.lines.specs.Lines.{Wrote}
-use Rattle.report.specs.Report.{Report, startOf, networkBy, networkOf, blank, blanks, Few, Full, printedOf, answeredOf, solvedOf, refusalOf, readingOf, reportOf, Reported}
+use Rattle.report.specs.Report.{Report, networkOf, blank, blanks, Few, Full, printedOf, answeredOf, solvedOf, refusalOf, readingOf, reportOf, Reported}
 
 -- a part of a column that is long enough
 pub cut : {A : Type 0} (n m : ℕ) (l : List A) → n ≤ m → length l ≡ m → n ≡ length (take n l)
 cut n m l h e = sym (length-take-le n l (rw e h))
 
 -- the answer of a solve, printed
-pub solved-is : (c : Tables) (read : Columns) (w v : List Float) (start : AcStart) (r : Outcome) (o : Outs) → start ≡ startOf (c .start)
-    → answer (paperOf r) o v ≡ solveOf (networkBy c read start) blanks w
+pub solved-is : (c : Tables) (read : Columns) (w v : List Float) (r : Outcome) (o : Outs) → answer (paperOf r) o v ≡ solveOf (networkOf c read) blanks w
     → {before after : List ℕ} {end : ℕ} → Wrote before 0 (printedOf (c .buses) (paperOf r) o) end after → Reported (solvedOf c read w) before end after v
 unfolding solvedOf
-solved-is c read w v start r o e h p =
-    let q : answer (paperOf r) o v ≡ solveOf (networkBy c read (startOf (c .start))) blanks w = rw e at h in
-    record { written = rw (← q) p; left = ap (λ (a : Answer). a .space) q }
+solved-is c read w v r o h p = record { written = rw (← h) p; left = ap (λ (a : Answer). a .space) h }
 
 -- ---- the rows of a good text fit their tables
 
