@@ -74,7 +74,7 @@ outcomeTold s old = outcome (paperTold s) (columnsTold s old)
 abbrev pub widthTold : List ℕ → ℕ
 widthTold s = min (pairOf 6 s) 258
 
--- columns of m places, each with a mark that no text can hold: 251 is no kind and here no bus number, and 1e300 has more than 15 digits
+-- columns of m places, a mark in each: 251, which is no kind's byte and no bus number of these texts, or 1e300, which no real of 15 digits is
 abbrev pub marks : ℕ → Columns
 marks m =
     let n : List ℕ = replicate m 251 in
