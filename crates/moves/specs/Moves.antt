@@ -7,7 +7,7 @@ use lib.Dec.{eqb}
 use lib.ListN.{getD}
 use lib.Ieee.{Float, nan, binary64, add, sub, lt}
 use Rattle.real.specs.Any.{anyBelow}
-use Rattle.real.specs.Literals.{margin}
+use Rattle.real.specs.Literals.{nought, margin}
 use Rattle.layout.specs.declared.BusKind.{BusKind}
 use Rattle.layout.specs.declared.BusKind.the-variants.{Slack, Pv, Pq}
 use Rattle.layout.specs.declared.Limits.{Limits}
@@ -16,6 +16,7 @@ use Rattle.layout.specs.Table.{stores, table}
 use Rattle.layout.specs.declared.Point.{Point}
 use Rattle.moves.specs.declared.Move.{Move}
 use Rattle.moves.specs.declared.Move.the-variants.{Keep, AtMax, AtMin, Back}
+use Rattle.moves.specs.declared.KindAt.{KindAt}
 use Rattle.moves.specs.declared.Track.{Track}
 
 -- ---- one bus
@@ -123,5 +124,23 @@ pinTo k kinds hold p = record { vm = stores (λ b. pinOf (kindOf kinds b) (getD 
 unfoldable pub pinned : ℕ → List BusKind → List Float → Point → Point
 pinned n kinds hold p = pinTo n kinds hold p
 
-unfoldable pub lettersOf : ℕ → List BusKind → List ℕ
-lettersOf n kinds = table n 0 (λ b. letterOf (kindOf kinds b))
+-- the schedule of a Q bus; Newton reads no other's
+abbrev pub schedAt : BusKind → Float → Float
+schedAt Slack q = nought
+schedAt Pv q = nought
+schedAt Pq q = q
+
+unfoldable pub scheduleOf : ℕ → List BusKind → List Float → List Float
+scheduleOf n kinds q = table n nought (λ b. schedAt (kindOf kinds b) (getD q b nan))
+
+abbrev pub kindAt : BusKind → KindAt
+kindAt k = record { kind = k }
+
+unfoldable pub keptKinds : ℕ → List BusKind → List KindAt
+keptKinds n kinds = table n (kindAt Slack) (λ b. kindAt (kindOf kinds b))
+
+abbrev pub keptKind : List KindAt → ℕ → BusKind
+keptKind kinds b = getD kinds b (kindAt Slack) .kind
+
+unfoldable pub lettersOf : ℕ → List KindAt → List ℕ
+lettersOf n kinds = table n 0 (λ b. letterOf (keptKind kinds b))

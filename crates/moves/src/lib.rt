@@ -7,7 +7,12 @@ use real::V_BACK;
 ghost use mathlib.Core.Path.{_≡_};
 ghost use Prim.Native.Nat.{_≤_};
 ghost use lib.ListN.{length};
-ghost use Rattle.moves.specs.Moves.{movePv, movePq, moveOf, isMove, kindAfter, schedAfter, convertedAfter, revertedAfter, pinOf, letterOf, movesOf, anyMove, kindsAfter, trackAfter, pinned, lettersOf, anyGenerator};
+ghost use Rattle.moves.specs.Moves.{movePv, movePq, moveOf, isMove, kindAfter, schedAfter, convertedAfter, revertedAfter, pinOf, letterOf, movesOf, anyMove, kindsAfter, trackAfter, pinned, schedAt, scheduleOf, keptKinds, lettersOf, anyGenerator};
+
+// A kind in a struct of its own: a field can be an array of these, and not one of enums.
+pub struct KindAt {
+    pub kind: BusKind,
+}
 
 // What a bus does after a round.
 pub enum Move {
@@ -149,6 +154,16 @@ fn pin_of(k: BusKind, v: f64, hold: f64) -> f64
     }
 }
 
+fn sched_at(k: BusKind, q: f64) -> f64
+    ensures { λ r. ⌜ r ≡ schedAt k q ⌝ }
+{
+    match k {
+        BusKind::Slack => 0.0,
+        BusKind::Pv => 0.0,
+        BusKind::Pq => q,
+    }
+}
+
 fn letter_of(k: BusKind) -> u8
     ensures { λ r. ⌜ r ≡ letterOf k ⌝ }
 {
@@ -251,13 +266,41 @@ pub fn pin(n: usize, kinds: [BusKind; 32], vm_hold: [f64; 32], p: Point) -> Poin
     t
 }
 
-pub fn letters(n: usize, kinds: [BusKind; 32]) -> [u8; 32]
+// What is scheduled at the Q buses: no other bus's figure is read by Newton.
+pub fn schedule(n: usize, kinds: [BusKind; 32], qsched: [f64; 32]) -> [f64; 32]
+    requires { ⌜ n ≤ 32 ⌝ }
+    ensures { λ r. ⌜ r ≡ scheduleOf n kinds qsched ⌝ }
+{
+    let mut t = [0.0; 32];
+    for b in 0..n {
+        let k = kinds[b];
+        t[b] = sched_at(k, qsched[b]);
+    }
+    t
+}
+
+pub fn kept_kinds(n: usize, kinds: [BusKind; 32]) -> [KindAt; 32]
+    requires { ⌜ n ≤ 32 ⌝ }
+    ensures { λ r. ⌜ r ≡ keptKinds n kinds ⌝ }
+{
+    let mut t = [KindAt {
+        kind: BusKind::Slack,
+    }; 32];
+    for b in 0..n {
+        let kind = kinds[b];
+        t[b] = KindAt { kind };
+    }
+    t
+}
+
+pub fn letters(n: usize, kinds: [KindAt; 32]) -> [u8; 32]
     requires { ⌜ n ≤ 32 ⌝ }
     ensures { λ r. ⌜ r ≡ lettersOf n kinds ⌝ }
 {
     let mut ls = [0u8; 32];
     for b in 0..n {
-        let k = kinds[b];
+        let at = kinds[b];
+        let k = at.kind;
         ls[b] = letter_of(k);
     }
     ls

@@ -95,8 +95,8 @@ endedOf (run e w) = e
 abbrev pub spaceAfter : Run → List Float
 spaceAfter (run e w) = w
 
-abbrev pub ended : Point → ℕ → Float → Ending → Ended
-ended p it res how = record { point = p; iterations = it; residual = res; ending = how }
+abbrev pub ended : Point → ℕ → Measured → Ending → Ended
+ended p it m how = record { point = p; phasors = m .phasors; iterations = it; residual = m .residual; ending = how }
 
 -- below tolerance after the fiftieth step counts as below tolerance
 abbrev pub lastEnding : Float → Ending
@@ -108,14 +108,14 @@ bySolution (Solution.Singular c) f r = f c
 
 -- the next k steps, of which `it` are done
 unfoldable pub stepsFrom : ℕ → ℕ → (Point → Measured) → Ybus → AcPfLayout → Point → Measured → List Float → Run
-stepsFrom zero it at y l p m w = run (ended p 49 (m .residual) (lastEnding (m .residual))) w
+stepsFrom zero it at y l p m w = run (ended p 49 m (lastEnding (m .residual))) w
 stepsFrom (suc k) it at y l p m w =
     let o = directionOf y l (p .va) m w in
     let t = triesFrom 12 at l p m (spaceOf o) one in
     let rest = stepsFrom k (it + 1) at y l (t .point) (t .at) (spaceOf o) in
-    cond (lt (m .residual) tolerance) (run (ended p it (m .residual) Converged) w)
-    (bySolution (answerOf o) (λ c. run (ended p it (m .residual) (Singular c)) (spaceOf o))
-    (cond (t .taken) rest (run (ended p it (m .residual) Stuck) (spaceOf o))))
+    cond (lt (m .residual) tolerance) (run (ended p it m Converged) w)
+    (bySolution (answerOf o) (λ c. run (ended p it m (Singular c)) (spaceOf o))
+    (cond (t .taken) rest (run (ended p it m Stuck) (spaceOf o))))
 
 unfoldable pub newtonOf : Problem → Point → List Float → Run
 newtonOf g p w = stepsFrom 50 0 (measuredOf g) (g .y) (g .layout) p (measuredOf g p) w

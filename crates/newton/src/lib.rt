@@ -37,6 +37,7 @@ pub enum Ending {
 
 pub struct Ended {
     pub point: Point,
+    pub phasors: Phasors,
     pub iterations: usize,
     pub residual: f64,
     pub ending: Ending,
@@ -292,8 +293,10 @@ pub fn newton(
     let mut m = measure(y_row, y_col, y_re, y_im, layout, pd, qd, pg, qg, p);
     for it in 0..50 {
         if m.residual < TOL {
+            let phasors = m.phasors;
             return Ended {
                 point: p,
+                phasors,
                 iterations: it,
                 residual: m.residual,
                 ending: Ending::Converged,
@@ -302,8 +305,10 @@ pub fn newton(
         let va = p.va;
         let found = direction(y_row, y_col, y_re, y_im, layout, va, m, w);
         if let Solution::Singular(c) = found {
+            let phasors = m.phasors;
             return Ended {
                 point: p,
+                phasors,
                 iterations: it,
                 residual: m.residual,
                 ending: Ending::Singular(c),
@@ -311,8 +316,10 @@ pub fn newton(
         }
         let t = search(y_row, y_col, y_re, y_im, layout, pd, qd, pg, qg, p, m, w);
         if !t.taken {
+            let phasors = m.phasors;
             return Ended {
                 point: p,
+                phasors,
                 iterations: it,
                 residual: m.residual,
                 ending: Ending::Stuck,
@@ -321,8 +328,10 @@ pub fn newton(
         p = t.point;
         m = t.at;
     }
+    let phasors = m.phasors;
     Ended {
         point: p,
+        phasors,
         iterations: 49,
         residual: m.residual,
         ending: last_ending(m.residual),

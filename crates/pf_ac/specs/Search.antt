@@ -5,15 +5,14 @@ use Prim.Native.Nat.{ℕ, zero, suc, _+_}
 use mathlib.Core.Bool.{Bool, true, false, cond}
 use mathlib.Core.List.{List}
 use lib.Dec.{eqb}
-use lib.ListN.{replicate}
 use lib.Ieee.{Float, lt, isNan}
-use Rattle.real.specs.Literals.{nought, tolerance}
+use Rattle.real.specs.Literals.{tolerance}
 use Rattle.layout.specs.declared.BusKind.{BusKind}
 use Rattle.layout.specs.declared.Point.{Point}
 use Rattle.starts.specs.declared.References.{References}
 use Rattle.starts.specs.Starts.{caseOf, fromFlat}
 use Rattle.qlim.specs.declared.Settled.{Settled}
-use Rattle.qlim.specs.Rounds.{Study, Done, settledOf, spaceDone, qlimOf}
+use Rattle.qlim.specs.Rounds.{Study, Done, nothing, settledOf, spaceDone, qlimOf}
 use Rattle.starts.specs.declared.AcStart.{AcStart}
 use Rattle.starts.specs.declared.AcStart.the-variants.{Flat, Case}
 use Rattle.pf_ac.specs.declared.AcPf.{AcPf}
@@ -47,7 +46,7 @@ pub data Searched : Type 0 where
   searched : AcPf → Settled → List Float → Searched
 
 abbrev pub solved : Settled → AcPf
-solved s = Solved (s .iterations) (s .residual)
+solved s = Solved (s .ended .iterations) (s .residual)
 
 -- what the result kept makes of the search
 abbrev pub judgedOf : Settled → ℕ → AcPf
@@ -67,8 +66,5 @@ searchFrom (suc m) i start s kinds first flat best w =
     tryOf (eqb i 0) best (qlimOf s kinds (startOf start (s .n) kinds first flat i) w) (searchFrom m (i + 1) start s kinds first flat)
 
 -- before the first start nothing is kept
-abbrev pub nothing : Point → Settled
-nothing p = record { point = p; letters = replicate 32 0; iterations = 0; residual = nought }
-
 unfoldable pub searchOf : AcStart → Study → List BusKind → Point → Point → List Float → Searched
 searchOf start s kinds first flat w = searchFrom (countOf start) 0 start s kinds first flat (nothing first) w

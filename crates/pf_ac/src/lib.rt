@@ -18,7 +18,7 @@ ghost use Rattle.qlim.specs.Rounds.{study};
 ghost use Rattle.qlim.specs.Rounds as Rounds;
 ghost use Rattle.starts.specs.References.{Slacks};
 ghost use Rattle.pf_ac.specs.Search.{betterOf, firstOf, startOf, countOf, searched, judgedOf, searchOf};
-ghost use Rattle.pf_ac.specs.Network.{network, Ready, acPfOf};
+ghost use Rattle.pf_ac.specs.Network.{Network, network, Ready, acPfOf};
 
 // Solved with its residual, or not converged with the best mismatch.
 pub enum AcPf {
@@ -112,7 +112,7 @@ fn judged(best: Settled, starts: usize) -> AcPf
 {
     if best.residual < TOL {
         return AcPf::Solved {
-            iterations: best.iterations,
+            iterations: best.ended.iterations,
             residual: best.residual,
         };
     }
@@ -144,12 +144,7 @@ fn search(
     ensures { λ r. ⌜ searched (r .found) (r .best) (now (w .exit)) ≡ searchOf start (study n (ybus (now («y_row» .entry)) (now («y_col» .entry)) (now («y_re» .entry)) (now («y_im» .entry))) (now (pd .entry)) (now (qd .entry)) (now (pg .entry)) qg limits «vm_hold») kinds first flat (now (w .entry)) ⌝ }
 {
     let count = start_count(start);
-    let mut best = Settled {
-        point: first,
-        letters: [0u8; 32],
-        iterations: 0,
-        residual: 0.0,
-    };
+    let mut best = qlim::nothing(first);
     for i in 0..count {
         let p = start_at(start, n, kinds, first, flat, i);
         let s = qlim::solve_qlim(
@@ -221,8 +216,9 @@ pub fn ac_pf_with_start(
     start: AcStart,
     w: &mut [f64],
 ) -> Kept
-    requires { ⌜ Ready (network (now kind) (now «vm_set») (now pd) (now qd) (now pg) (now qg) (now «vm_case») (now «va_case») (now slacks) (now «va_slacks») (now «gen_bus») (now qmin) (now qmax) (now «br_from») (now «br_to») (now «y_row») (now «y_col») (now «y_re») (now «y_im») start) × (4160 ≤ length (now w)) ⌝ }
-    ensures { λ r. ⌜ searched (r .found) (r .best) (now (w .exit)) ≡ acPfOf (network (now (kind .entry)) (now («vm_set» .entry)) (now (pd .entry)) (now (qd .entry)) (now (pg .entry)) (now (qg .entry)) (now («vm_case» .entry)) (now («va_case» .entry)) (now (slacks .entry)) (now («va_slacks» .entry)) (now («gen_bus» .entry)) (now (qmin .entry)) (now (qmax .entry)) (now («br_from» .entry)) (now («br_to» .entry)) (now («y_row» .entry)) (now («y_col» .entry)) (now («y_re» .entry)) (now («y_im» .entry)) start) (now (w .entry)) ⌝ }
+    ghost { Network }
+    requires { λ t. ⌜ network (now kind) (now «vm_set») (now pd) (now qd) (now pg) (now qg) (now «vm_case») (now «va_case») (now slacks) (now «va_slacks») (now «gen_bus») (now qmin) (now qmax) (now «br_from») (now «br_to») (now «y_row») (now «y_col») (now «y_re») (now «y_im») start ≡ t ⌝ ∗ ⌜ Ready t × (4160 ≤ length (now w)) ⌝ }
+    ensures { λ t r. ⌜ searched (r .found) (r .best) (now (w .exit)) ≡ acPfOf t (now (w .entry)) ⌝ }
 {
     let n = kind.len();
     let kinds = layout::default_kinds(n, kind, slacks);

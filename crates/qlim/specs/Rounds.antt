@@ -7,17 +7,20 @@ use mathlib.Core.Bool.{false, cond}
 use mathlib.Core.List.{List}
 use lib.ListN.{length, replicate}
 use lib.Ieee.{Float, inf, le}
-use Rattle.real.specs.Literals.{tolerance}
+use Rattle.real.specs.Literals.{nought, tolerance}
 use Rattle.layout.specs.declared.BusKind.{BusKind}
+use Rattle.layout.specs.declared.BusKind.the-variants.{Slack}
 use Rattle.layout.specs.declared.Limits.{Limits}
 use Rattle.layout.specs.Layout.{layoutOf}
 use Rattle.injections.specs.Injections.{Ybus, Good, injectionsOf}
 use Rattle.layout.specs.declared.Point.{Point}
+use Rattle.injections.specs.declared.Column.{Column}
 use Rattle.newton.specs.declared.Ended.{Ended}
+use Rattle.newton.specs.declared.Ending.the-variants.{Spent}
 use Rattle.newton.specs.Newton.{problem, Run, newtonOf, endedOf, spaceAfter}
 use Rattle.moves.specs.declared.Track.{Track}
 use Rattle.qlim.specs.declared.Settled.{Settled}
-use Rattle.moves.specs.Moves.{movesOf, anyMove, kindsAfter, trackAfter, pinned, lettersOf}
+use Rattle.moves.specs.Moves.{movesOf, anyMove, kindsAfter, trackAfter, pinned, scheduleOf, kindAt, keptKinds}
 
 -- what stays the same through the rounds: demands, scheduled generation, the limits and the held voltages of the n buses
 pub record Study : Type 0 where
@@ -53,9 +56,20 @@ spaceDone (done s w) = w
 abbrev pub infinity : Float
 infinity = inf false
 
--- Newton's end under these kinds, with a residual
-abbrev pub settleOf : ℕ → List BusKind → Ended → Float → Settled
-settleOf n kinds e res = record { point = e .point; letters = lettersOf n kinds; iterations = e .iterations; residual = res }
+-- before the first round
+abbrev pub nothing : Point → Settled
+nothing p =
+    let zero : Column = record { re = replicate 32 nought; im = replicate 32 nought } in
+    record {
+      ended = record { point = p; phasors = record { v = zero; i = zero }; iterations = 0; residual = infinity; ending = Spent };
+      kinds = replicate 32 (kindAt Slack);
+      schedule = replicate 32 nought;
+      residual = infinity;
+    }
+
+-- Newton's end under these kinds and schedules, with a residual
+abbrev pub settleOf : ℕ → List BusKind → List Float → Ended → Float → Settled
+settleOf n kinds q e res = record { ended = e; kinds = keptKinds n kinds; schedule = scheduleOf n kinds q; residual = res }
 
 -- what a round makes of Newton's end r: it settles, or `rest` goes on from the new kinds
 unfoldable pub roundOf : Study → List BusKind → Track → Run → (List BusKind → Track → Point → Settled → List Float → Done) → Done
@@ -64,10 +78,10 @@ roundOf s kinds t r rest =
     let q = injectionsOf (s .n) (s .y) (e .point .vm) (e .point .va) .power .q in
     let ms = movesOf (s .n) kinds (s .limits) t (s .qd) q (e .point .vm) (s .hold) in
     let next = kindsAfter (s .n) kinds ms in
-    let settled = done (settleOf (s .n) kinds e (e .residual)) (spaceAfter r) in
+    let settled = done (settleOf (s .n) kinds (t .qsched) e (e .residual)) (spaceAfter r) in
     cond (le tolerance (e .residual)) settled
     (cond (anyMove (s .n) ms)
-    (rest next (trackAfter (s .n) t (s .limits) (s .qg) ms) (pinned (s .n) next (s .hold) (e .point)) (settleOf (s .n) kinds e infinity) (spaceAfter r))
+    (rest next (trackAfter (s .n) t (s .limits) (s .qg) ms) (pinned (s .n) next (s .hold) (e .point)) (settleOf (s .n) kinds (t .qsched) e infinity) (spaceAfter r))
     settled)
 
 -- the next k rounds; with none left, the last that ran, at infinity
@@ -83,4 +97,4 @@ fresh qg = record { qsched = qg; converted = replicate 32 0; reverted = replicat
 unfoldable pub qlimOf : Study → List BusKind → Point → List Float → Done
 qlimOf s kinds p w =
     let start = pinned (s .n) kinds (s .hold) p in
-    roundsFrom 12 s kinds (fresh (s .qg)) start (record { point = start; letters = lettersOf (s .n) kinds; iterations = 0; residual = infinity }) w
+    roundsFrom 12 s kinds (fresh (s .qg)) start (nothing start) w

@@ -1,37 +1,66 @@
 // Of pf_ac.rs: solve_qlim. Rounds of Newton's steps, after each of which generators past their reactive limits are released and released ones restored.
+use injections::Column;
+use injections::Phasors;
 use layout::AcPfLayout;
 use layout::BusKind;
 use layout::Limits;
 use layout::Point;
+use moves::KindAt;
 use moves::Move;
 use moves::Track;
 use newton::Ended;
+use newton::Ending;
 use real::TOL;
 ghost use mathlib.Core.Path.{_≡_};
 ghost use Prim.Native.Nat.{_≤_};
 ghost use lib.ListN.{length};
-ghost use Rattle.injections.specs.Injections.{ybus, Good, injectionsOf};
+ghost use Rattle.injections.specs.Injections.{ybus, injectedOf};
 ghost use Rattle.moves.specs.Moves.{movesOf};
-ghost use Rattle.qlim.specs.Rounds.{study, Ready, settleOf, done, qlimOf};
+ghost use Rattle.qlim.specs.Rounds.{study, Ready, nothing, settleOf, done, qlimOf};
 
-// The last round's point, its kinds as letters (a field can't be an array of enums), iterations and residual.
+// The last round: Newton's end, the kinds and the schedule that it ran under. The residual is that of the end, or infinity where no typing settled.
 pub struct Settled {
-    pub point: Point,
-    pub letters: [u8; 32],
-    pub iterations: usize,
+    pub ended: Ended,
+    pub kinds: [KindAt; 32],
+    pub schedule: [f64; 32],
     pub residual: f64,
 }
 
-// Newton's end under these kinds, with a residual.
-fn settle(n: usize, kinds: [BusKind; 32], e: Ended, residual: f64) -> Settled
-    requires { ⌜ n ≤ 32 ⌝ }
-    ensures { λ r. ⌜ r ≡ settleOf n kinds e residual ⌝ }
+// Before the first round.
+pub fn nothing(p: Point) -> Settled
+    ensures { λ r. ⌜ r ≡ nothing p ⌝ }
 {
-    let point = e.point;
+    let zero = Column {
+        re: [0.0; 32],
+        im: [0.0; 32],
+    };
+    let phasors = Phasors { v: zero, i: zero };
+    let ended = Ended {
+        point: p,
+        phasors,
+        iterations: 0,
+        residual: 1.0 / 0.0,
+        ending: Ending::Spent,
+    };
     Settled {
-        point,
-        letters: moves::letters(n, kinds),
-        iterations: e.iterations,
+        ended,
+        kinds: [KindAt {
+            kind: BusKind::Slack,
+        }; 32],
+        schedule: [0.0; 32],
+        residual: 1.0 / 0.0,
+    }
+}
+
+// Newton's end under these kinds and schedules, with a residual.
+fn settle(n: usize, kinds: [BusKind; 32], qsched: [f64; 32], e: Ended, residual: f64) -> Settled
+    requires { ⌜ n ≤ 32 ⌝ }
+    ensures { λ r. ⌜ r ≡ settleOf n kinds qsched e residual ⌝ }
+{
+    Settled {
+        ended: e,
+        kinds: moves::kept_kinds(n, kinds),
+        schedule: moves::schedule(n, kinds, qsched),
         residual,
     }
 }
@@ -40,18 +69,14 @@ fn settle(n: usize, kinds: [BusKind; 32], e: Ended, residual: f64) -> Settled
 fn switches(
     n: usize,
     kinds: [BusKind; 32],
-    y_row: &[usize],
-    y_col: &[usize],
-    y_re: &[f64],
-    y_im: &[f64],
     limits: Limits,
     t: Track,
     qd: &[f64],
-    p: Point,
+    e: Ended,
     vm_hold: [f64; 32],
 ) -> [Move; 32]
-    requires { ⌜ Good n (ybus (now «y_row») (now «y_col») (now «y_re») (now «y_im»)) × (n ≤ length (now qd)) ⌝ }
-    ensures { λ r. ⌜ r ≡ movesOf n kinds limits t (now (qd .entry)) (injectionsOf n (ybus (now («y_row» .entry)) (now («y_col» .entry)) (now («y_re» .entry)) (now («y_im» .entry))) (p .vm) (p .va) .power .q) (p .vm) «vm_hold» ⌝ }
+    requires { ⌜ (n ≤ 32) × (n ≤ length (now qd)) ⌝ }
+    ensures { λ r. ⌜ r ≡ movesOf n kinds limits t (now (qd .entry)) (injectedOf n (e .phasors) .q) (e .point .vm) «vm_hold» ⌝ }
 {
     // Only a bus with a generator moves; without one no power is asked for.
     let has_gen = limits.has_gen;
@@ -59,10 +84,10 @@ fn switches(
         let still = [Move::Keep; 32];
         return still;
     }
+    let p = e.point;
     let vm = p.vm;
-    let va = p.va;
-    let found = injections::ac_injections(n, y_row, y_col, y_re, y_im, vm, va);
-    let power = found.power;
+    let phasors = e.phasors;
+    let power = injections::bus_powers(n, phasors);
     let q_calc = power.q;
     moves::moves(n, kinds, limits, t, qd, q_calc, vm, vm_hold)
 }
@@ -94,37 +119,20 @@ pub fn solve_qlim(
         reverted: [false; 32],
     };
     let mut p = moves::pin(n, default, vm_hold, start);
-    let mut last = Settled {
-        point: p,
-        letters: moves::letters(n, default),
-        iterations: 0,
-        residual: 1.0 / 0.0,
-    };
+    let mut last = nothing(p);
     for round in 0usize..12 {
         let layout = AcPfLayout::with_kinds(n, kinds);
         let qsched = t.qsched;
         let e = newton::newton(y_row, y_col, y_re, y_im, layout, pd, qd, pg, qsched, p, w);
         if e.residual >= TOL {
-            return settle(n, kinds, e, e.residual);
+            return settle(n, kinds, qsched, e, e.residual);
         }
         let point = e.point;
-        let ms = switches(
-            n,
-            kinds,
-            y_row,
-            y_col,
-            y_re,
-            y_im,
-            limits,
-            t,
-            qd,
-            point,
-            vm_hold,
-        );
+        let ms = switches(n, kinds, limits, t, qd, e, vm_hold);
         if !moves::any_move(n, ms) {
-            return settle(n, kinds, e, e.residual);
+            return settle(n, kinds, qsched, e, e.residual);
         }
-        last = settle(n, kinds, e, 1.0 / 0.0);
+        last = settle(n, kinds, qsched, e, 1.0 / 0.0);
         let next = moves::kinds_after(n, kinds, ms);
         kinds = next;
         t = moves::track_after(n, t, limits, qg, ms);

@@ -9,7 +9,7 @@ use lib.Ieee.{Float, isNan, neg, ofInt, ofBits, toBits}
 use Rattle.real.specs.Tests.{both}
 use Rattle.real.specs.Literals.{double}
 use Rattle.case_text.proofs.Examples.{listing, listing-tables, listing-columns, listing-read}
-use Rattle.tables.specs.Tables.{ok, roomy, zeros}
+use Rattle.tables.specs.Tables.{ok, placesIn, roomy, zeros}
 use Rattle.tables.proofs.Examples as Solved
 use Rattle.lines.specs.Lines.{decimalBy, realOf, okOf, busOf, busesOf}
 use Rattle.report.specs.Report.{networkOf, blank, blanks, printedOf, answeredOf, readingOf, solvedOf, reportOf}
@@ -33,7 +33,7 @@ same-lines : printedOf 1 (ok 0 (double 0)) (Solved.row blanks) ≡ first-line ++
 unfolding okOf busesOf busOf decimalBy realOf isNan toBits ofInt ofBits
 same-lines = refl
 
-room : (w : List Float) → leb 6144 (length w) ≡ true → roomy Solved.listing blanks w ≡ true
+room : (w : List Float) → leb 6144 (length w) ≡ true → roomy Solved.listing (placesIn blanks w) ≡ true
 unfolding roomy both
 room w h = h
 

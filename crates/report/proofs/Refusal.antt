@@ -1,4 +1,4 @@
--- A text that the reader refuses: its refusal is printed, and the workspace stays as it was. Assumes nothing.
+-- A text that the reader refuses: its refusal is the answer, and columns and workspace stay as they were. Assumes nothing.
 use Prim.Native.Nat.{ℕ}
 use mathlib.Core.Path.{_≡_}
 use mathlib.Core.List.{List}
@@ -6,11 +6,11 @@ use lib.Ieee.{Float}
 use Rattle.case_text.specs.declared.Reading.{Reading}
 use Rattle.case_text.specs.Answer.{Columns, outcome, paperOf, readOf}
 use Rattle.case_text.proofs.Refusals.{Refused, refused-paper}
-use Rattle.lines.specs.Lines.{Wrote}
-use Rattle.report.specs.Report.{blank, refusalOf, reportOf, Reported}
+use Rattle.tables.specs.Tables.{Outs}
+use Rattle.report.specs.declared.Answered.the-variants.{Unread}
+use Rattle.report.specs.Report.{blank, paperIn, told, toldOf}
 
-module _ (s : List ℕ) (w : List Float) (read : Columns) where
-  pub refused-is : (r : Reading) → outcome (paperOf r) read ≡ readOf s blank → Refused r → {before after : List ℕ} {end : ℕ} → Wrote before 0 (refusalOf r) end after
-      → Reported (reportOf s w) before end after w
-  unfolding reportOf
-  refused-is r h k p = let t = refused-paper r k .3 in record { written = rw (← h, t) (rw t at p); left = rw (← h, t) }
+pub told-unread : (s : List ℕ) (o : Outs) (w : List Float) (r : Reading) (read : Columns) → outcome (paperOf r) read ≡ readOf s blank → Refused r
+    → told 0 (paperIn (Unread r)) o w ≡ toldOf s o w
+unfolding toldOf
+told-unread s o w r read h k = rw (← h, refused-paper r k .3)

@@ -12,7 +12,9 @@ use Rattle.case_text.specs.declared.Reading.{Reading}
 use Rattle.case_text.specs.Answer as Reader
 use Rattle.case_text.specs.Answer.{Columns, columns, readOf}
 use Rattle.pf_ac.specs.Network.{Network, network}
-use Rattle.tables.specs.Tables.{Outs, outs, Answer, solveOf}
+use Rattle.tables.specs.Tables.{Outs, outs, paperOf, Answer, solveOf}
+use Rattle.report.specs.declared.Answered.{Answered}
+use Rattle.report.specs.declared.Answered.the-variants.{Unread, Solved}
 use Rattle.lines.specs.Lines.{okOf, busesOf, refusedOf, Wrote}
 
 -- ---- from the reader to the solve
@@ -77,6 +79,37 @@ readingOf (Reader.outcome (refused number values) read) w = record { bytes = ref
 
 unfoldable pub reportOf : List ℕ → List Float → Report
 reportOf s w = readingOf (readOf s blank) w
+
+-- ---- the answer of a text, not yet printed
+
+pub record Told : Type 0 where
+  pub buses : ℕ
+  pub paper : Paper (ℕ × Float)
+  pub columns : Outs
+  pub space : List Float
+
+abbrev pub told : ℕ → Paper (ℕ × Float) → Outs → List Float → Told
+told n r o w = record { buses = n; paper = r; columns = o; space = w }
+
+-- of a good text the solve's; a reader's refusal leaves columns and workspace untouched
+abbrev pub tellOf : Reader.Outcome → Outs → List Float → Told
+tellOf (Reader.outcome (given c) read) o w = let a = solveOf (networkOf c read) o w in told (c .buses) (a .paper) (a .columns) (a .space)
+tellOf (Reader.outcome (refused number values) read) o w = told 0 (refused number values) o w
+
+unfoldable pub toldOf : List ℕ → Outs → List Float → Told
+toldOf s o w = tellOf (readOf s blank) o w
+
+abbrev pub unreadBy : Paper Tables → Paper (ℕ × Float)
+unreadBy (given c) = refused 9 []
+unreadBy (refused number values) = refused number values
+
+abbrev pub busesIn : Answered → ℕ
+busesIn (Unread r) = 0
+busesIn (Solved n r) = n
+
+abbrev pub paperIn : Answered → Paper (ℕ × Float)
+paperIn (Unread r) = unreadBy (Reader.paperOf r)
+paperIn (Solved n r) = paperOf r
 
 -- the report stands at the buffer's beginning, and the workspace is as the definition leaves it
 pub record Reported (r : Report) (before : List ℕ) (end : ℕ) (after : List ℕ) (space : List Float) : Type 0 where

@@ -1,15 +1,15 @@
 // The report: from the bytes of a case text to the bytes that the solve program prints.
 use case_text::Reading;
-use case_text::Tables;
 use tables::Outcome;
 ghost use mathlib.Core.Path.{_≡_};
-ghost use Prim.Native.Nat.{_≤_};
+ghost use Prim.Native.Nat.{ℕ, _≤_};
 ghost use lib.ListN.{length};
 ghost use Rattle.io.specs.Counts.{Counts};
-ghost use Rattle.case_text.specs.Answer.{columns};
-ghost use Rattle.tables.specs.Tables.{outs, paperOf};
+ghost use mathlib.Core.List.{List};
+ghost use lib.Ieee.{Float};
+ghost use Rattle.tables.specs.Tables.{Outs, outs, paperOf};
 ghost use Rattle.lines.specs.Lines.{Wrote};
-ghost use Rattle.report.specs.Report.{Few, Full, refusalOf, printedOf, solvedOf, reportOf, Reported};
+ghost use Rattle.report.specs.Report.{refusalOf, busesIn, paperIn, printedOf, told, toldOf, reportOf, Reported};
 
 // What is printed of a text that the reader refuses.
 fn put_reading(r: Reading, out: &mut [u8]) -> usize
@@ -57,86 +57,25 @@ fn put_outcome(
     }
 }
 
-// Solves the tables of a good text, whose columns may have places past the rows, and prints the outcome.
-fn put_solved(
-    c: Tables,
-    kind: &[u8],
-    vm_set: &[f64],
-    pd: &[f64],
-    qd: &[f64],
-    pg: &[f64],
-    qg: &[f64],
-    vm_case: &[f64],
-    va_case: &[f64],
-    slacks: &[usize],
-    va_slacks: &[f64],
-    gen_bus: &[usize],
-    qmin: &[f64],
-    qmax: &[f64],
-    br_from: &[usize],
-    br_to: &[usize],
-    y_row: &[usize],
-    y_col: &[usize],
-    y_re: &[f64],
-    y_im: &[f64],
-    w: &mut [f64],
-    out: &mut [u8],
-) -> usize
-    requires { ⌜ Few c × Full (columns (now kind) (now «vm_set») (now pd) (now qd) (now pg) (now qg) (now «vm_case») (now «va_case») (now slacks) (now «va_slacks») (now «gen_bus») (now qmin) (now qmax) (now «br_from») (now «br_to») (now «y_row») (now «y_col») (now «y_re») (now «y_im»)) × (4096 ≤ length (now out)) ⌝ }
-    ensures { λ k. ⌜ Reported (solvedOf c (columns (now (kind .entry)) (now («vm_set» .entry)) (now (pd .entry)) (now (qd .entry)) (now (pg .entry)) (now (qg .entry)) (now («vm_case» .entry)) (now («va_case» .entry)) (now (slacks .entry)) (now («va_slacks» .entry)) (now («gen_bus» .entry)) (now (qmin .entry)) (now (qmax .entry)) (now («br_from» .entry)) (now («br_to» .entry)) (now («y_row» .entry)) (now («y_col» .entry)) (now («y_re» .entry)) (now («y_im» .entry))) (now (w .entry))) (now (out .entry)) k (now (out .exit)) (now (w .exit)) × (k ≤ 4096) ⌝ }
-{
-    let start = c.start;
-    let b = c.buses;
-    let r = c.slacks;
-    let g = c.generators;
-    let l = c.branches;
-    let y = c.triplets;
-    let mut vm_room = [0.0; 32];
-    let mut va_room = [0.0; 32];
-    let mut p_room = [0.0; 32];
-    let mut q_room = [0.0; 32];
-    let mut kinds_room = [0u8; 32];
-    let vm: &mut [f64] = &mut vm_room;
-    let va: &mut [f64] = &mut va_room;
-    let p: &mut [f64] = &mut p_room;
-    let q: &mut [f64] = &mut q_room;
-    let kinds: &mut [u8] = &mut kinds_room;
-    let found = tables::solve(
-        &kind[..b],
-        &vm_set[..b],
-        &pd[..b],
-        &qd[..b],
-        &pg[..b],
-        &qg[..b],
-        &vm_case[..b],
-        &va_case[..b],
-        &slacks[..r],
-        &va_slacks[..r],
-        &gen_bus[..g],
-        &qmin[..g],
-        &qmax[..g],
-        &br_from[..l],
-        &br_to[..l],
-        &y_row[..y],
-        &y_col[..y],
-        &y_re[..y],
-        &y_im[..y],
-        start,
-        vm,
-        va,
-        p,
-        q,
-        kinds,
-        w,
-    );
-    put_outcome(found, b, vm, va, p, q, kinds, out)
+// The answer of a text: refused by the reader, or what the solve of its tables answers, with the number of buses.
+pub enum Answered {
+    Unread(Reading),
+    Solved(usize, Outcome),
 }
 
-// The report of a text. The buffer's first places, as many as are answered, hold it.
-#[no_mangle]
-pub extern "C" fn report(text: &[u8], out: &mut [u8; 4096], space: &mut [f64; 6144]) -> usize
-    ensures { λ k. ⌜ Reported (reportOf (now (text .entry)) (now (space .entry))) (now (out .entry)) k (now (out .exit)) (now (space .exit)) ⌝ }
-    ensures { λ k. ⌜ Counts k (now (out .exit)) ⌝ }
+// Reads a text and solves its tables. The columns hold a good answer.
+pub fn answer(
+    text: &[u8],
+    vm: &mut [f64; 32],
+    va: &mut [f64; 32],
+    p: &mut [f64; 32],
+    q: &mut [f64; 32],
+    kinds: &mut [u8; 32],
+    w: &mut [f64],
+) -> Answered
+    ghost { List ℕ × Outs × List Float }
+    requires { λ α. ⌜ (now text, outs (now vm) (now va) (now p) (now q) (now kinds), now w) ≡ α ⌝ }
+    ensures { λ (s, o, space) r. ⌜ (told (busesIn r) (paperIn r) (outs (now (vm .exit)) (now (va .exit)) (now (p .exit)) (now (q .exit)) (now (kinds .exit))) (now (w .exit)) ≡ toldOf s o space) × (busesIn r ≤ 32) ⌝ }
 {
     let mut kind = [0u8; 32];
     let mut vm_set = [0.0; 32];
@@ -180,30 +119,75 @@ pub extern "C" fn report(text: &[u8], out: &mut [u8; 4096], space: &mut [f64; 61
         &mut y_im,
     );
     let Reading::Good(c) = read else {
-        return put_reading(read, out);
+        return Answered::Unread(read);
     };
-    put_solved(
-        c,
-        &kind,
-        &vm_set,
-        &pd,
-        &qd,
-        &pg,
-        &qg,
-        &vm_case,
-        &va_case,
-        &slacks,
-        &va_slacks,
-        &gen_bus,
-        &qmin,
-        &qmax,
-        &br_from,
-        &br_to,
-        &y_row,
-        &y_col,
-        &y_re,
-        &y_im,
-        space,
-        out,
-    )
+    let start = c.start;
+    let b = c.buses;
+    let r = c.slacks;
+    let g = c.generators;
+    let l = c.branches;
+    let y = c.triplets;
+    let found = tables::solve(
+        &kind[..b],
+        &vm_set[..b],
+        &pd[..b],
+        &qd[..b],
+        &pg[..b],
+        &qg[..b],
+        &vm_case[..b],
+        &va_case[..b],
+        &slacks[..r],
+        &va_slacks[..r],
+        &gen_bus[..g],
+        &qmin[..g],
+        &qmax[..g],
+        &br_from[..l],
+        &br_to[..l],
+        &y_row[..y],
+        &y_col[..y],
+        &y_re[..y],
+        &y_im[..y],
+        start,
+        vm,
+        va,
+        p,
+        q,
+        kinds,
+        w,
+    );
+    Answered::Solved(b, found)
+}
+
+// Prints an answer.
+fn put_answer(
+    a: Answered,
+    vm: &[f64; 32],
+    va: &[f64; 32],
+    p: &[f64; 32],
+    q: &[f64; 32],
+    kinds: &[u8; 32],
+    out: &mut [u8],
+) -> usize
+    requires { ⌜ (busesIn a ≤ 32) × (4096 ≤ length (now out)) ⌝ }
+    ensures { λ k. ⌜ Wrote (now (out .entry)) 0 (printedOf (busesIn a) (paperIn a) (outs (now (vm .entry)) (now (va .entry)) (now (p .entry)) (now (q .entry)) (now (kinds .entry)))) k (now (out .exit)) × (k ≤ 4096) ⌝ }
+{
+    match a {
+        Answered::Unread(r) => put_reading(r, out),
+        Answered::Solved(n, r) => put_outcome(r, n, vm, va, p, q, kinds, out),
+    }
+}
+
+// The report of a text. The buffer's first places, as many as are answered, hold it.
+#[no_mangle]
+pub extern "C" fn report(text: &[u8], out: &mut [u8; 4096], space: &mut [f64; 6144]) -> usize
+    ensures { λ k. ⌜ Reported (reportOf (now (text .entry)) (now (space .entry))) (now (out .entry)) k (now (out .exit)) (now (space .exit)) ⌝ }
+    ensures { λ k. ⌜ Counts k (now (out .exit)) ⌝ }
+{
+    let mut vm = [0.0; 32];
+    let mut va = [0.0; 32];
+    let mut p = [0.0; 32];
+    let mut q = [0.0; 32];
+    let mut kinds = [0u8; 32];
+    let a = answer(text, &mut vm, &mut va, &mut p, &mut q, &mut kinds, space);
+    put_answer(a, &vm, &va, &p, &q, &kinds, out)
 }

@@ -23,23 +23,26 @@ loop-holds : tie.Need-loop-holds Inv-loop μ-loop
 loop-holds c = (omega arith, refl, rw (c .measure .ensures) (newton-begins _ _ _))
 
 returns : tie.Need-returns Inv-loop μ-loop
-returns c = sym (steps-done _ _ _ _ _ _ _ _ (c .if1 .taken)) ∙ (rw (fuel 50 _ (c .before .before .loop-test .taken)) at (c .before .before .before .loop .inv .2))
+returns c =
+    let i = c .before in
+    let t = i .before .before in
+    sym (steps-done _ _ _ _ _ _ _ _ (i .if1 .taken)) ∙ (rw (fuel 50 _ (t .loop-test .taken)) at (t .before .loop .inv .2))
 
 returns-2 : tie.Need-returns-2 Inv-loop μ-loop
 returns-2 c =
-    let d = c .before .before .before .before .before in
+    let d = c .before .before .before .before .before .before in
     let i = d .before .before .before in
     let t = i .before .before in
-    sym (steps-singular _ _ _ _ _ _ _ _ (i .if1 .left) _ _ (rw (c .before .found .given .1) at (d .direction .ensures))) ∙ (rw (fuel 50 _ (t .loop-test .taken)) at (t .before .loop .inv .2))
+    sym (steps-singular _ _ _ _ _ _ _ _ (i .if1 .left) _ _ (rw (c .before .before .found .given .1) at (d .direction .ensures))) ∙ (rw (fuel 50 _ (t .loop-test .taken)) at (t .before .loop .inv .2))
 
 returns-3 : tie.Need-returns-3 Inv-loop μ-loop
 returns-3 c =
-    let s = c .before .before in
+    let s = c .before .before .before in
     let u = s .before .before in
     let d = u .before .before .before .before in
     let i = d .before .before .before in
     let t = i .before .before in
-    sym (steps-stuck _ _ _ _ _ _ _ _ (i .if1 .left) _ (rw (u .enum-told .given .1) at (d .direction .ensures)) _ (s .search .ensures) (not-true _ (c .if2 .taken))) ∙ (rw (fuel 50 _ (t .loop-test .taken)) at (t .before .loop .inv .2))
+    sym (steps-stuck _ _ _ _ _ _ _ _ (i .if1 .left) _ (rw (u .enum-told .given .1) at (d .direction .ensures)) _ (s .search .ensures) (not-true _ (c .before .if2 .taken))) ∙ (rw (fuel 50 _ (t .loop-test .taken)) at (t .before .loop .inv .2))
 
 loop-again : tie.Need-loop-again Inv-loop μ-loop
 loop-again c =
@@ -55,7 +58,7 @@ loop-again c =
 
 returns-4 : tie.Need-returns-4 Inv-loop μ-loop
 returns-4 c =
-    let l = c .before .before .loop in
+    let l = c .before .before .before .loop in
     let e : l .it ≡ 50 = omega arith in
     steps-none _ _ _ _ _ _ _ _ (c .last-ending .ensures) ∙ (rw e at (l .inv .2))
 
@@ -68,7 +71,7 @@ search-requires c κs =
 
 same-length-3 : tie.Need-same-length-3 Inv-loop μ-loop
 same-length-3 c =
-    let d = c .before .before .before .before .before .before .before .before in
+    let d = c .before .before .before .before .before .before .before .before .before in
     d .direction .kept .1 .1 .1 .1 .1 .1 .1 .0 ∙ d .before .before .before .before .before .before .loop .inv .1
 
 pub newton-spec : {M : Type 1} → statement M

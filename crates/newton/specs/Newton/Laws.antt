@@ -1,16 +1,16 @@
 -- Each recursion of Newton's steps, one turn as an equation for each way that it goes, at a fuel that is a variable; and what a run depends on.
 -- Assumes nothing.
-use Prim.Native.Nat.{ℕ, suc, _+_, _-_, _<_}
-use mathlib.Core.Bool.{true, false}
+use Prim.Native.Nat.{ℕ, zero, suc, _+_, _-_, _<_}
+use mathlib.Core.Bool.{Bool, true, false, cond}
 use mathlib.Core.List.{List}
-use mathlib.Core.Path.{_≡_, refl, sym, _∙_}
+use mathlib.Core.Path.{_≡_, refl, sym, ap, _∙_}
 use native.Mathlib.Omega.{arith}
 use lib.Ieee.{Float, binary64, mul, lt}
 use Rattle.real.specs.Literals.{one, half, tolerance}
 use Rattle.layout.specs.declared.AcPfLayout.{AcPfLayout}
 use Rattle.linsolve.specs.declared.Solution.{Solution}
 use Rattle.linsolve.specs.declared.Solution.the-variants as Solution
-use Rattle.linsolve.specs.Linear.{Outcome, outcome, cleared, solution}
+use Rattle.linsolve.specs.Linear.{Outcome, outcome, answerOf, spaceOf, cleared, solution}
 use Rattle.injections.specs.declared.Injections.{Injections}
 use Rattle.injections.specs.Injections.{Ybus, injectionsOf}
 use Rattle.injections.specs.Jacobian.{jacobianOf}
@@ -22,7 +22,7 @@ use Rattle.newton.specs.declared.Trial.{Trial}
 use Rattle.newton.specs.declared.Ending.{Ending}
 use Rattle.newton.specs.declared.Ending.the-variants.{Converged, Singular, Stuck}
 use Rattle.newton.specs.Step.{stepOf, unfitTo}
-use Rattle.newton.specs.Newton.{Problem, measuredOf, sidesTo, directionOf, keptTrial, takenTrial, attemptOf, triesFrom, ended, lastEnding, run, stepsFrom, newtonOf}
+use Rattle.newton.specs.Newton.{Problem, measuredOf, sidesTo, directionOf, keptTrial, takenTrial, attemptOf, triesFrom, Run, endedOf, ended, lastEnding, bySolution, run, stepsFrom, newtonOf}
 
 -- k of m turns are done: one more is left than after the next
 pub fuel : (m k : ℕ) → k < m → m - k ≡ suc (m - (k + 1))
@@ -75,23 +75,23 @@ tries-none at l p m w alpha = refl
 -- ---- the steps
 
 module _ (it : ℕ) (at : Point → Measured) (y : Ybus) (l : AcPfLayout) (p : Point) (m : Measured) (w : List Float) where
-  pub steps-none : (how : Ending) → how ≡ lastEnding (m .residual) → run (ended p 49 (m .residual) how) w ≡ stepsFrom 0 it at y l p m w
+  pub steps-none : (how : Ending) → how ≡ lastEnding (m .residual) → run (ended p 49 m how) w ≡ stepsFrom 0 it at y l p m w
   unfolding stepsFrom
   steps-none how e = rw e
 
   module _ (k : ℕ) where
-    pub steps-done : lt (m .residual) tolerance ≡ true → stepsFrom (suc k) it at y l p m w ≡ run (ended p it (m .residual) Converged) w
+    pub steps-done : lt (m .residual) tolerance ≡ true → stepsFrom (suc k) it at y l p m w ≡ run (ended p it m Converged) w
     unfolding stepsFrom
     steps-done h = rw h
 
     module _ (h : lt (m .residual) tolerance ≡ false) where
       pub steps-singular : (c : ℕ) (v : List Float) → outcome (Solution.Singular c) v ≡ directionOf y l (p .va) m w
-          → stepsFrom (suc k) it at y l p m w ≡ run (ended p it (m .residual) (Singular c)) v
+          → stepsFrom (suc k) it at y l p m w ≡ run (ended p it m (Singular c)) v
       unfolding stepsFrom
       steps-singular c v e = rw (h, ← e)
 
       module _ (v : List Float) (e : outcome Solution.Solved v ≡ directionOf y l (p .va) m w) (t : Trial) (et : t ≡ triesFrom 12 at l p m v one) where
-        pub steps-stuck : t .taken ≡ false → stepsFrom (suc k) it at y l p m w ≡ run (ended p it (m .residual) Stuck) v
+        pub steps-stuck : t .taken ≡ false → stepsFrom (suc k) it at y l p m w ≡ run (ended p it m Stuck) v
         unfolding stepsFrom
         steps-stuck ht = rw (h, ← e, ← et, ht)
 
@@ -108,3 +108,57 @@ newton-begins g p w = refl
 pub newton-same : (g h : Problem) → g .y ≡ h .y → g .layout ≡ h .layout → ((p : Point) → measuredOf g p ≡ measuredOf h p) → (p : Point) (w : List Float)
     → newtonOf g p w ≡ newtonOf h p w
 newton-same g h ey el em p w = sym (newton-begins g p w) ∙ (λ i. stepsFrom 50 0 (λ q. em q i) (ey i) (el i) p (em p i) w) ∙ newton-begins h p w
+
+-- ---- what is carried with a point is what is measured there, so the phasors of an end are those at its point
+
+module _ (at : Point → Measured) (y : Ybus) (l : AcPfLayout) where
+  abbrev Fits : Trial → Type 0
+  Fits t = t .at ≡ at (t .point)
+
+  either : (b : Bool) (s t : Trial) → Fits s → Fits t → Fits (cond b s t)
+  either true s t hs ht = hs
+  either false s t hs ht = ht
+
+  attempt-fit : (p : Point) (m : Measured) → m ≡ at p → (w : List Float) (alpha : Float) → Fits (attemptOf at l p m w alpha)
+  unfolding attemptOf
+  attempt-fit p m h w alpha =
+      let s = stepOf l p w alpha in
+      let lower = lt (at s .residual) (m .residual) in
+      either (unfitTo (l .n) s) (keptTrial p m) (cond lower (takenTrial s (at s)) (keptTrial p m)) h (either lower (takenTrial s (at s)) (keptTrial p m) refl h)
+
+  tries-fit : (k : ℕ) (p : Point) (m : Measured) → m ≡ at p → (w : List Float) (alpha : Float) → Fits (triesFrom k at l p m w alpha)
+  unfolding triesFrom
+  tries-fit zero p m h w alpha = h
+  tries-fit (suc k) p m h w alpha =
+      let a = attemptOf at l p m w alpha in
+      either (a .taken) a (triesFrom k at l p m w (mul binary64 alpha half)) (attempt-fit p m h w alpha) (tries-fit k p m h w (mul binary64 alpha half))
+
+  abbrev AtPoint : Run → Type 0
+  AtPoint r = endedOf r .phasors ≡ at (endedOf r .point) .phasors
+
+  one-of : (b : Bool) (r s : Run) → AtPoint r → AtPoint s → AtPoint (cond b r s)
+  one-of true r s hr hs = hr
+  one-of false r s hr hs = hs
+
+  by-solution : (a : Solution) (f : ℕ → Run) (r : Run) → ((c : ℕ) → AtPoint (f c)) → AtPoint r → AtPoint (bySolution a f r)
+  by-solution Solution.Solved f r hf hr = hr
+  by-solution (Solution.Singular c) f r hf hr = hf c
+
+  steps-at : (k it : ℕ) (p : Point) (m : Measured) → m ≡ at p → (w : List Float) → AtPoint (stepsFrom k it at y l p m w)
+  unfolding stepsFrom
+  steps-at zero it p m h w = ap (λ (x : Measured). x .phasors) h
+  steps-at (suc k) it p m h w =
+      let here = ap (λ (x : Measured). x .phasors) h in
+      let o = directionOf y l (p .va) m w in
+      let t = triesFrom 12 at l p m (spaceOf o) one in
+      let rest = stepsFrom k (it + 1) at y l (t .point) (t .at) (spaceOf o) in
+      let stuck = run (ended p it m Stuck) (spaceOf o) in
+      let singular : ℕ → Run = λ c. run (ended p it m (Singular c)) (spaceOf o) in
+      one-of (lt (m .residual) tolerance) (run (ended p it m Converged) w) (bySolution (answerOf o) singular (cond (t .taken) rest stuck)) here
+      (by-solution (answerOf o) singular (cond (t .taken) rest stuck) (λ c. here)
+      (one-of (t .taken) rest stuck (steps-at k (it + 1) (t .point) (t .at) (tries-fit 12 p m h (spaceOf o) one) (spaceOf o)) here))
+
+-- Newton's end has the phasors of its point
+pub end-at : (g : Problem) (p : Point) (w : List Float) → let e = endedOf (newtonOf g p w) in e .phasors ≡ measuredOf g (e .point) .phasors
+unfolding newtonOf
+end-at g p w = steps-at (measuredOf g) (g .y) (g .layout) 50 0 p (measuredOf g p) refl w

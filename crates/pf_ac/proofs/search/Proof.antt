@@ -21,17 +21,17 @@ abbrev μ-loop : tie.MeasureT-loop
 μ-loop start n kinds y-row y-col y-re y-im pd qd pg qg limits vm-hold first flat w₀ count best₀ i₀ w best i = count - i
 
 loop-holds : tie.Need-loop-holds Inv-loop μ-loop
-loop-holds c = (omega arith, refl, search-begins _ _ _ _ _ _ (c .start-count .ensures .0) _)
+loop-holds c = (omega arith, refl, search-begins _ _ _ _ _ _ (c .before .start-count .ensures .0) _ (c .nothing .ensures) _)
 
 start-at-requires : tie.Need-start-at-requires Inv-loop μ-loop
 start-at-requires c κs =
-    let t = c .before .before in
+    let t = c .before .before .before in
     (t .before .before .before .before .before .before .before .before .before .pre .0 .good .few, omega (arith, t .start-count .ensures .1))
 
 solve-qlim-requires : tie.Need-solve-qlim-requires Inv-loop μ-loop
 solve-qlim-requires c κs =
     let l = c .before .before .before in
-    let s = l .before .before .before .before .before .before .before .before .before .before in
+    let s = l .before .before .before .before .before .before .before .before .before .before .before in
     (s .pre .0, omega (arith, s .pre .1, l .loop .inv .1))
 
 same-length : tie.Need-same-length Inv-loop μ-loop
@@ -66,13 +66,19 @@ loop-again c =
           ∙ (rw (fuel _ _ (p .before .loop-test .taken)) at (l .loop .inv .2)),
     )
 
+add-i : tie.Need-add-i Inv-loop μ-loop
+add-i c = let t = c .before .before .before .before .before .before .before .before .before .before in omega (arith, t .loop-test .taken, t .before .before .before .start-count .ensures .1)
+
+loop-less : tie.Need-loop-less Inv-loop μ-loop
+loop-less c = omega (arith, c .before .before .before .before .before .before .before .before .before .before .loop-test .taken)
+
 same-length-2 : tie.Need-same-length-2 Inv-loop μ-loop
 same-length-2 c = c .before .loop .inv .1
 
 returns-2 : tie.Need-returns-2 Inv-loop μ-loop
 returns-2 c =
     let l = c .before .loop in
-    let n = c .before .before .start-count in
+    let n = c .before .before .before .start-count in
     let e : n .result - l .i ≡ 0 = omega arith in
     search-none _ _ _ _ _ _ _ (n .ensures .0) _ _ ∙ (rw e at (l .inv .2))
 
@@ -82,6 +88,7 @@ search-spec =
     (tie.spec
     Inv-loop
     μ-loop
+    (λ c κs. search needs)
     (λ c κs. search needs)
     loop-holds
     start-at-requires
@@ -93,8 +100,8 @@ search-spec =
     (λ c. search needs)
     same-length
     returns
-    (λ c. search needs)
-    (λ c. search needs)
+    add-i
+    loop-less
     loop-again
     same-length-2
     returns-2)

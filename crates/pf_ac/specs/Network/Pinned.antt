@@ -22,11 +22,11 @@ use Rattle.layout.specs.Residual.Laws.{NoReactive}
 use Rattle.starts.specs.Starts.{caseVm, caseOf}
 use Rattle.qlim.specs.declared.Settled.{Settled}
 use Rattle.moves.specs.Moves.{pinOf, pinned}
-use Rattle.qlim.specs.Rounds.{Study, qlimOf}
+use Rattle.qlim.specs.Rounds.{Study, nothing, qlimOf}
 use Rattle.qlim.specs.Rounds.Unread.{start-unread}
 use Rattle.starts.specs.declared.AcStart.{AcStart}
 use Rattle.starts.specs.declared.AcStart.the-variants.{Flat, Case}
-use Rattle.pf_ac.specs.Search.{startOf, betterOf, tryOf, searchFrom, firstOf, nothing, searchOf}
+use Rattle.pf_ac.specs.Search.{startOf, betterOf, tryOf, searchFrom, firstOf, searchOf}
 use Rattle.pf_ac.specs.Network.{Network, network, buses, kindsFor, studyFor, referencesFor, flatFor, firstFor, acPfOf}
 use Rattle.pf_ac.specs.Network.Withheld.{kindFor, SameAt}
 

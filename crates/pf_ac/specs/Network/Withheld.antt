@@ -19,11 +19,11 @@ use Rattle.layout.specs.Kinds.Laws.{kinds-at}
 use Rattle.layout.specs.Limits.{sumAt, limitsOf}
 use Rattle.layout.specs.Limits.Laws.{qmin-at, qmax-at, sum-unread}
 use Rattle.qlim.specs.declared.Settled.{Settled}
-use Rattle.qlim.specs.Rounds.{Study, qlimOf}
+use Rattle.qlim.specs.Rounds.{Study, qlimOf, nothing}
 use Rattle.qlim.specs.Rounds.Unread.{AlikeStudies, rounds-unread}
 use Rattle.starts.specs.declared.AcStart.{AcStart}
 use Rattle.starts.specs.declared.AcStart.the-variants.{Flat}
-use Rattle.pf_ac.specs.Search.{startOf, tryOf, searchFrom, countOf, nothing, searchOf}
+use Rattle.pf_ac.specs.Search.{startOf, tryOf, searchFrom, countOf, searchOf}
 use Rattle.pf_ac.specs.Network.{Network, network, buses, columnOf, kindsFor, studyFor, flatFor, firstFor, acPfOf}
 
 -- 01's kind of bus b

@@ -11,12 +11,12 @@ use Rattle.layout.specs.declared.BusKind.{BusKind}
 use Rattle.layout.specs.declared.Point.{Point}
 use Rattle.starts.specs.Starts.{fromFlat}
 use Rattle.qlim.specs.declared.Settled.{Settled}
-use Rattle.qlim.specs.Rounds.{Study, Done, done, qlimOf}
+use Rattle.qlim.specs.Rounds.{Study, Done, done, nothing, qlimOf}
 use Rattle.starts.specs.declared.AcStart.{AcStart}
 use Rattle.starts.specs.declared.AcStart.the-variants.{Flat, Case}
 use Rattle.pf_ac.specs.declared.AcPf.{AcPf}
 use Rattle.pf_ac.specs.declared.AcPf.the-variants.{Solved, NotConverged}
-use Rattle.pf_ac.specs.Search.{startOf, countOf, betterOf, Searched, searched, solved, judgedOf, tryOf, searchFrom, nothing, searchOf}
+use Rattle.pf_ac.specs.Search.{startOf, countOf, betterOf, Searched, searched, solved, judgedOf, tryOf, searchFrom, searchOf}
 
 pub first-start : (start : AcStart) (n : ℕ) (kinds : List BusKind) (first flat : Point) (i : ℕ) → i ≡ 0 → first ≡ startOf start n kinds first flat i
 unfolding startOf
@@ -79,9 +79,9 @@ module _ (start : AcStart) (s : Study) (kinds : List BusKind) (first flat : Poin
         try-on : (rest : Settled → List Float → Searched) → tryOf (eqb i 0) best (done r v) rest ≡ rest kept v
         try-on rest = unfold tryOf in rw (← ey, ← ek, h)
 
-  pub search-begins : (c : ℕ) → c ≡ countOf start → (w : List Float)
-      → searchFrom (c - 0) 0 start s kinds first flat (nothing first) w ≡ searchOf start s kinds first flat w
+  pub search-begins : (c : ℕ) → c ≡ countOf start → (best : Settled) → best ≡ nothing first → (w : List Float)
+      → searchFrom (c - 0) 0 start s kinds first flat best w ≡ searchOf start s kinds first flat w
   unfolding searchOf
-  search-begins c e w =
+  search-begins c e best eb w =
       let q : c - 0 ≡ c = omega arith in
-      ap (λ (k : ℕ). searchFrom k 0 start s kinds first flat (nothing first) w) (q ∙ e)
+      rw eb (ap (λ (k : ℕ). searchFrom k 0 start s kinds first flat (nothing first) w) (q ∙ e))

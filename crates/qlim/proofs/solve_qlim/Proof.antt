@@ -2,6 +2,7 @@
 use Prim.Native.Nat.{_-_, _≤_}
 use mathlib.Core.Path.{_≡_, refl, sym, _∙_}
 use native.Mathlib.Omega.{arith}
+use borrow.Author.Needs.{needs}
 use borrow.Author.Tests.{not-true, not-false}
 use lib.ListN.{length}
 use lib.Ieee.{div, ofBits}
@@ -42,9 +43,6 @@ entry c = start-of (layout-of (newton-of c) .before)
 pin-requires : tie.Need-pin-requires Inv-loop μ-loop
 pin-requires c κs = c .before .before .before .before .before .before .before .before .pre .0 .good .few
 
-letters-requires : tie.Need-letters-requires Inv-loop μ-loop
-letters-requires c κs = c .before .before .before .before .before .before .before .before .before .pre .0 .good .few
-
 loop-holds : tie.Need-loop-holds Inv-loop μ-loop
 loop-holds c = (omega arith, refl, refl)
 
@@ -76,10 +74,10 @@ returns c =
     rw (c .settle .ensures)
     (sym (rounds-short _ _ _ _ _ _ _ _ (k .with-kinds .ensures) _ _ (e .newton .ensures) (c .before .if1 .taken))
     ∙ (rw (fuel 12 _ (k .before .loop-test .taken)) at (k .before .before .loop .inv .2))
-    ∙ rounds-begin _ _ _ _ (i .before .pin .ensures) _ (i .letters .ensures) _)
+    ∙ rounds-begin _ _ _ _ (i .before .pin .ensures) _ (i .nothing .ensures) _)
 
 switches-requires : tie.Need-switches-requires Inv-loop μ-loop
-switches-requires c κs = let s = entry (c .before .before) in (s .pre .0 .good, s .pre .0 .reactive)
+switches-requires c κs = let s = entry (c .before .before) in (s .pre .0 .good .few, s .pre .0 .reactive)
 
 any-move-requires : tie.Need-any-move-requires Inv-loop μ-loop
 any-move-requires c κs = entry (end-of c) .pre .0 .good .few
@@ -103,7 +101,7 @@ returns-2 c =
     rw (c .settle2 .ensures)
     (sym (rounds-still _ _ _ _ _ _ _ _ (k .with-kinds .ensures) _ _ (e .newton .ensures) (s .before .before .if1 .left) _ (s .switches .ensures) (sym (m .any-move .ensures) ∙ not-true _ (c .before .if2 .taken)))
     ∙ (rw (fuel 12 _ (k .before .loop-test .taken)) at (k .before .before .loop .inv .2))
-    ∙ rounds-begin _ _ _ _ (i .before .pin .ensures) _ (i .letters .ensures) _)
+    ∙ rounds-begin _ _ _ _ (i .before .pin .ensures) _ (i .nothing .ensures) _)
 
 settle-requires-3 : tie.Need-settle-requires-3 Inv-loop μ-loop
 settle-requires-3 c κs = entry (end-of (c .before .before)) .pre .0 .good .few
@@ -151,7 +149,7 @@ returns-3 c =
     let l = c .before .loop in
     let i = c .before .before in
     let e : l .round ≡ 12 = omega arith in
-    rounds-none _ _ _ _ _ _ ∙ (rw e at (l .inv .2)) ∙ rounds-begin _ _ _ _ (i .before .pin .ensures) _ (i .letters .ensures) _
+    rounds-none _ _ _ _ _ _ ∙ (rw e at (l .inv .2)) ∙ rounds-begin _ _ _ _ (i .before .pin .ensures) _ (i .nothing .ensures) _
 
 pub solve-qlim-spec : {M : Type 1} → statement M
 solve-qlim-spec =
@@ -160,7 +158,7 @@ solve-qlim-spec =
     Inv-loop
     μ-loop
     pin-requires
-    letters-requires
+    (λ c κs. search needs)
     loop-holds
     with-kinds-requires
     newton-requires

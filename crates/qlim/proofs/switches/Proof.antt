@@ -10,7 +10,7 @@ returns : tie.Need-returns
 returns c = no-move _ _ _ _ _ _ _ _ (sym (c .before .any-generator .ensures) ∙ not-true _ (c .if1 .taken))
 
 returns-2 : tie.Need-returns-2
-returns-2 c = let a = c .before .before .before in rw (a .ac-injections .ensures) at (c .moves .ensures)
+returns-2 c = rw (c .before .before .bus-powers .ensures) at (c .moves .ensures)
 
 pub switches-spec : {M : Type 1} → statement M
 switches-spec = tie.close (tie.spec (λ c κs. search needs) returns (λ c κs. search needs) (λ c κs. search needs) returns-2)

@@ -23,9 +23,9 @@ use Rattle.moves.specs.declared.Move.{Move}
 use Rattle.moves.specs.declared.Move.the-variants.{Keep}
 use Rattle.moves.specs.declared.Track.{Track}
 use Rattle.qlim.specs.declared.Settled.{Settled}
-use Rattle.moves.specs.Moves.{moveAt, movesOf, anyMove, kindsAfter, trackTo, trackAfter, pinned, lettersOf}
+use Rattle.moves.specs.Moves.{moveAt, movesOf, anyMove, kindsAfter, trackTo, trackAfter, pinned, schedAt, scheduleOf, keptKinds}
 use Rattle.moves.specs.Moves.Laws.{NoLimits, Standing, slack, held, released, loaded, active-v, active-q, reactive-q, move-alike, After, standing-on}
-use Rattle.qlim.specs.Rounds.{Study, study, Done, done, infinity, settleOf, roundOf, roundsFrom, fresh, qlimOf}
+use Rattle.qlim.specs.Rounds.{Study, study, Done, done, infinity, nothing, roundOf, roundsFrom, fresh, qlimOf}
 
 -- alike for rounds that begin under these kinds: at each bus a figure agrees, or the bus is of a kind at which it is withheld
 pub record AlikeStudies (kinds : List BusKind) (s u : Study) : Type 0 where
@@ -163,27 +163,43 @@ module _ (d : List BusKind) (s u : Study) (few : s .n ≤ 32) (a : AlikeStudies 
     abbrev at-end : Point
     at-end = endedOf e .point
 
-    abbrev settled : Done
-    settled = done (settleOf (s .n) kinds (endedOf e) (endedOf e .residual)) (spaceAfter e)
+    -- Newton's end with a schedule and a residual
+    abbrev settled : List Float → Float → Settled
+    settled z res = record { ended = endedOf e; kinds = keptKinds (s .n) kinds; schedule = z; residual = res }
+
+    -- of the schedule only the Q buses' figures are handed on
+    schedule-alike : scheduleOf (s .n) kinds x ≡ scheduleOf (s .n) kinds y
+    unfolding scheduleOf
+    schedule-alike = stores-ext _ _ (s .n) _ (λ b h. go (i .at b h))
+      where
+        go : {d k : BusKind} {c : ℕ} {v z : Float} → Standing d k c v z → schedAt k v ≡ schedAt k z
+        go slack = refl
+        go held = refl
+        go (released f) = f
+        go (loaded f) = f
 
     abbrev q-end : List Float
     q-end = injectionsOf (s .n) (s .y) (at-end .vm) (at-end .va) .power .q
 
     -- the round, once its moves and what goes on from them are known
-    abbrev turned : List Move → Done → Done
-    turned ms z = cond (le tolerance (endedOf e .residual)) settled (cond (anyMove (s .n) ms) z settled)
+    abbrev turned : List Float → List Move → Done → Done
+    turned q ms z =
+        let d = done (settled q (endedOf e .residual)) (spaceAfter e) in
+        cond (le tolerance (endedOf e .residual)) d (cond (anyMove (s .n) ms) z d)
 
-    abbrev goes : Rest → Study → List Float → List Move → Done
-    goes h t z ms =
+    abbrev goes : Rest → Study → List Float → List Float → List Move → Done
+    goes h t z q ms =
         let next = kindsAfter (s .n) kinds ms in
-        h next (trackTo (s .n) (track z c r) (t .limits) (t .qg) ms) (pinned (s .n) next (s .hold) at-end) (settleOf (s .n) kinds (endedOf e) infinity) (spaceAfter e)
+        h next (trackTo (s .n) (track z c r) (t .limits) (t .qg) ms) (pinned (s .n) next (s .hold) at-end) (settled q infinity) (spaceAfter e)
 
     round-alike : roundOf s kinds (track x c r) e f ≡ roundOf (with s u) kinds (track y c r) e g
     unfolding roundOf trackAfter
     round-alike =
         let ms = moves kinds c x y i r q-end (at-end .vm) in
-        ap (turned ms) (alike _ _ (track-on kinds c x y i r q-end (at-end .vm) .reverted) _ _ (stand-on kinds c x y i r q-end (at-end .vm)) _ _ _)
-        ∙ ap (λ (m : List Move). turned m (goes g (with s u) y m)) (moves-alike kinds c x y i r q-end (at-end .vm))
+        let q = scheduleOf (s .n) kinds y in
+        ap (turned (scheduleOf (s .n) kinds x) ms) (alike _ _ (track-on kinds c x y i r q-end (at-end .vm) .reverted) _ _ (stand-on kinds c x y i r q-end (at-end .vm)) _ _ _)
+        ∙ ap (λ (z : List Float). turned z ms (goes g (with s u) y z ms)) schedule-alike
+        ∙ ap (λ (m : List Move). turned q m (goes g (with s u) y q m)) (moves-alike kinds c x y i r q-end (at-end .vm))
 
   rounds-alike : (k : ℕ) → Alike (roundsFrom k s) (roundsFrom k (with s u))
   unfolding roundsFrom
@@ -219,7 +235,7 @@ rounds-unread kinds s u few a p w = by 12
     from : ℕ → Study → Done
     from m t =
         let start = pinned (t .n) kinds (t .hold) p in
-        roundsFrom m t kinds (fresh (t .qg)) start (record { point = start; letters = lettersOf (t .n) kinds; iterations = 0; residual = infinity }) w
+        roundsFrom m t kinds (fresh (t .qg)) start (nothing start) w
 
     by : (m : ℕ) → from m s ≡ from m u
     by m =
@@ -233,7 +249,7 @@ unfolding qlimOf
 start-unread kinds s p q e w = by 12
   where
     from : ℕ → Point → Done
-    from m start = roundsFrom m s kinds (fresh (s .qg)) start (record { point = start; letters = lettersOf (s .n) kinds; iterations = 0; residual = infinity }) w
+    from m start = roundsFrom m s kinds (fresh (s .qg)) start (nothing start) w
 
     by : (m : ℕ) → from m (pinned (s .n) kinds (s .hold) p) ≡ from m (pinned (s .n) kinds (s .hold) q)
     by m = ap (from m) e

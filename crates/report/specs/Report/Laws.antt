@@ -2,7 +2,7 @@
 use Prim.Native.Nat.{ℕ, _-_, _≤_}
 use mathlib.Core.Path.{_≡_, refl, sym, ap, _∙_}
 use mathlib.Core.List.{List, []}
-use mathlib.Core.Bool.{true, cond}
+use mathlib.Core.Bool.{Bool, true, false, cond}
 use borrow.Author.Tests.{leb-true, le-leb, eq-eqb}
 use lib.Dec.{leb}
 use lib.ListN.{length, take, length-replicate}
@@ -18,13 +18,13 @@ use Rattle.case_text.specs.Text.{textOf}
 use Rattle.case_text.specs.Text.Laws.{Accepted, Where, text-sound, never-short}
 use Rattle.case_text.specs.Answer.{Columns, columns, roomOf, fitsOf, withRoom, judgedOf, writtenOf, settledOf, readOf}
 use Rattle.case_text.specs.Answer.Laws.{rows-most}
+use Rattle.tables.specs.declared.Checked.the-variants as Checked
 use Rattle.tables.specs.declared.Outcome.{Outcome}
 use Rattle.pf_ac.specs.Network.Withheld.{Alike}
 use Rattle.tables.specs.Tables.Withheld.{solve-withheld}
-use Rattle.pf_ac.specs.Network.{acPfOf}
-use Rattle.tables.specs.Tables.{Outs, counted, roomy, numbered, Answer, answer, paperOf, ranOf, solveOf}
+use Rattle.tables.specs.Tables.{Outs, counted, placesIn, roomy, numbered, checkedOf, runOf, Answer, answer, afterRun, afterCheck, paperOf, solveOf}
 use Rattle.lines.specs.Lines.{Wrote}
-use Rattle.report.specs.Report.{Report, networkOf, blank, blanks, Few, Full, printedOf, answeredOf, solvedOf, refusalOf, readingOf, reportOf, Reported}
+use Rattle.report.specs.Report.{Report, networkOf, blank, blanks, Few, Full, printedOf, answeredOf, solvedOf, refusalOf, readingOf, reportOf, refusalBy, unreadBy, Told, told, tellOf, toldOf, Reported}
 
 -- a part of a column that is long enough
 pub cut : {A : Type 0} (n m : ℕ) (l : List A) → n ≤ m → length l ≡ m → n ≡ length (take n l)
@@ -53,6 +53,37 @@ module _ (s : List ℕ) (w : List Float) (r : Reading) (read : Columns) (h : Rea
   unfolding reportOf
   good-is c e p = rw (← h, e) p
 
+-- ---- the answer, not yet printed
+
+module _ (s : List ℕ) (o : Outs) (w : List Float) (r : Reading) (read : Columns) (h : Reader.outcome (Reader.paperOf r) read ≡ readOf s blank) where
+  pub told-solved : (c : Tables) → r ≡ Reading.Good c → (found : Outcome) (o′ : Outs) (w′ : List Float)
+      → answer (paperOf found) o′ w′ ≡ solveOf (networkOf c read) o w → told (c .buses) (paperOf found) o′ w′ ≡ toldOf s o w
+  unfolding toldOf
+  told-solved c e found o′ w′ q = rw (← h, e, ← q)
+
+-- a reader's refusal as it is printed
+pub unread-printed : (p : Paper Tables) (o : Outs) → printedOf 0 (unreadBy p) o ≡ refusalBy p
+unread-printed (given c) o = refl
+unread-printed (refused number values) o = refl
+
+-- printing the answer gives the report
+abbrev reported : Told → Report
+reported t = record { bytes = printedOf (t .buses) (t .paper) (t .columns); space = t .space }
+
+pub report-told : (s : List ℕ) (w : List Float) → reported (toldOf s blanks w) ≡ reportOf s w
+unfolding toldOf reportOf solvedOf
+report-told s w = go (readOf s blank)
+  where
+    go : (x : Reader.Outcome) → reported (tellOf x blanks w) ≡ readingOf x w
+    go (Reader.outcome (given c) read) = refl
+    go (Reader.outcome (refused number values) read) = refl
+
+pub printed-is : (s : List ℕ) (w : List Float) (n : ℕ) (r : Paper (ℕ × Float)) (o : Outs) (v : List Float) → told n r o v ≡ toldOf s blanks w
+    → {before after : List ℕ} {end : ℕ} → Wrote before 0 (printedOf n r o) end after → Reported (reportOf s w) before end after v
+printed-is s w n r o v h p =
+    let e : reported (told n r o v) ≡ reportOf s w = ap reported h ∙ report-told s w in
+    record { written = rw (← e) p; left = ap (λ (x : Report). x .space) e }
+
 -- ---- refusals 7 and 9 are not met by a text
 
 pub reader-never-9 : (s : List ℕ) → judgedOf s (roomOf blank) ≡ textOf s
@@ -71,16 +102,21 @@ counted-read c (columns kind vmSet pd qd pg qg vmCase vaCase slacks vaSlacks gen
     (← cut (c .buses) 32 kind (f .0) (g .0), ← cut (c .buses) 32 vmSet (f .0) (g .1), ← cut (c .buses) 32 pd (f .0) (g .2), ← cut (c .buses) 32 qd (f .0) (g .3), ← cut (c .buses) 32 pg (f .0) (g .4), ← cut (c .buses) 32 qg (f .0) (g .5), ← cut (c .buses) 32 vmCase (f .0) (g .6), ← cut (c .buses) 32 vaCase (f .0) (g .7), ← cut (c .slacks) 32 slacks (f .1) (g .8), ← cut (c .slacks) 32 vaSlacks (f .1) (g .9), ← cut (c .generators) 32 genBus (f .2) (g .10), ← cut (c .generators) 32 qmin (f .2) (g .11), ← cut (c .generators) 32 qmax (f .2) (g .12), ← cut (c .branches) 64 brFrom (f .3) (g .13), ← cut (c .branches) 64 brTo (f .3) (g .14), ← cut (c .triplets) 256 yRow (f .4) (g .15), ← cut (c .triplets) 256 yCol (f .4) (g .16), ← cut (c .triplets) 256 yRe (f .4) (g .17), ← cut (c .triplets) 256 yIm (f .4) (g .18), le-leb (c .buses) 32 (f .0), le-leb (c .slacks) 32 (f .1), le-leb (c .generators) 32 (f .2), le-leb (c .branches) 64 (f .3), le-leb (c .triplets) 256 (f .4), eq-eqb (c .buses) (c .buses) refl, eq-eqb (c .slacks) (c .slacks) refl, eq-eqb (c .generators) (c .generators) refl, eq-eqb (c .branches) (c .branches) refl, eq-eqb (c .triplets) (c .triplets) refl)
     refl
 
-roomy-blanks : (c : Tables) (read : Columns) (w : List Float) → Few c → Full read → leb 6144 (length w) ≡ true → roomy (networkOf c read) blanks w ≡ true
+roomy-blanks : (c : Tables) (read : Columns) (w : List Float) → Few c → Full read → leb 6144 (length w) ≡ true → roomy (networkOf c read) (placesIn blanks w) ≡ true
 unfolding roomy both
 roomy-blanks c (columns kind vmSet pd qd pg qg vmCase vaCase slacks vaSlacks genBus qmin qmax brFrom brTo yRow yCol yRe yIm) w f g h =
     rw (← cut (c .buses) 32 kind (f .0) (g .0), le-leb (c .buses) 32 (f .0), h) refl
 
 pub solve-never-7-9 : (c : Tables) (read : Columns) (w : List Float) → Few c → Full read → leb 6144 (length w) ≡ true
     → solveOf (networkOf c read) blanks w
-    ≡ cond (numbered (networkOf c read)) (ranOf (networkOf c read) blanks w (acPfOf (networkOf c read) w)) (answer (refused 8 []) blanks w)
-unfolding solveOf
-solve-never-7-9 c read w f g h = rw (counted-read c read f g, roomy-blanks c read w f g h) refl
+    ≡ cond (numbered (networkOf c read)) (afterRun (networkOf c read) blanks (runOf (networkOf c read) w)) (answer (refused 8 []) blanks w)
+unfolding solveOf checkedOf
+solve-never-7-9 c read w f g h = rw (counted-read c read f g, roomy-blanks c read w f g h) (go (numbered (networkOf c read)))
+  where
+    go : (b : Bool) → afterCheck (networkOf c read) blanks w (cond b Checked.Ready Checked.Bus)
+        ≡ cond b (afterRun (networkOf c read) blanks (runOf (networkOf c read) w)) (answer (refused 8 []) blanks w)
+    go true = refl
+    go false = refl
 
 full-read : (s : List ℕ) (t : ℕ) → Full (writtenOf s t blank)
 unfolding writtenOf
@@ -92,7 +128,7 @@ abbrev pub textReport : List ℕ → List Float → Reading → Report
 textReport s w v =
     onGiven (Reader.paperOf v)
     (λ c. let t = networkOf c (writtenOf s (length s - 38) blank) in
-    answeredOf (c .buses) (cond (numbered t) (ranOf t blanks w (acPfOf t w)) (answer (refused 8 []) blanks w)))
+    answeredOf (c .buses) (cond (numbered t) (afterRun t blanks (runOf t w)) (answer (refused 8 []) blanks w)))
     (record { bytes = refusalOf v; space = w })
 
 pub report-never-7-9 : (s : List ℕ) (w : List Float) → leb 6144 (length w) ≡ true → (reportOf s w ≡ textReport s w (textOf s)) × (textOf s ≡ Reading.Short → ⊥)

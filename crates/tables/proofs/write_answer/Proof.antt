@@ -9,6 +9,10 @@ use Rattle.tables.proofs.write_answer.Tie as tie
 abbrev power-of : tie.After-fill-arg → tie.After-ac-injections
 power-of c = c .before .before .before .before
 
+-- the letters, and the start from there
+abbrev letters-of : tie.After-ac-injections → tie.After-letters
+letters-of i = i .before .before .before
+
 abbrev vm-of : tie.After-fill-arg2 → tie.After-fill
 vm-of c = c .before .before .before
 
@@ -27,7 +31,7 @@ kinds-of c = c .before .before
 -- ---- and the start
 
 abbrev start1 : tie.After-fill-arg → tie.Start
-start1 c = power-of c .before .before .before .before .before .before .before .before .before .before .before .before .before .before
+start1 c = power-of c .before .before .before .before .before .before .before .before .before .before .before .before .before .before .before .before
 
 abbrev start2 : tie.After-fill-arg2 → tie.Start
 start2 c = start1 (vm-of c .before)
@@ -49,13 +53,14 @@ returns c =
     let a = va-of (p .before) in
     let m = vm-of (a .before) in
     let i = power-of (m .before) in
-    written-is _ _ _ _ (i .ac-injections .result) (i .ac-injections .ensures) _ _ _ _ _
+    written-is _ _ _ _ (i .ac-injections .result) (i .ac-injections .ensures) _ (letters-of i .letters .ensures) _ _ _ _ _
     (m .fill .ensures) (a .fill2 .ensures) (p .fill3 .ensures) (q .fill4 .ensures) (k .fill-bytes .ensures)
 
 pub write-answer-spec : {M : Type 1} → statement M
 write-answer-spec =
     tie.close
     (tie.spec
+    (λ c κs. search needs)
     (λ c κs. search needs)
     (λ c κs. let r = start1 c .pre in (r .0 .few, r .1))
     (λ c κs. let r = start2 c .pre in (r .0 .few, r .2))

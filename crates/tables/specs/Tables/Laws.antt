@@ -1,59 +1,86 @@
 -- Each way out of the call, what its checks tell, and that its contract fixes everything. Assumes nothing.
 use Prim.Native.Nat.{ℕ, _≤_, _<_}
-use mathlib.Core.Bool.{true, false}
-use mathlib.Core.List.{List}
+use mathlib.Core.Bool.{Bool, true, false, cond}
+use mathlib.Core.List.{List, [], _∷_}
 use mathlib.Core.Path.{_≡_, refl, sym, ap, _∙_}
 use native.Mathlib.Nat.{le-refl}
 use native.Mathlib.Omega.{arith}
 use borrow.Author.Tests.{eqb-true, leb-true}
 use lib.ListN.{length, getD, replicate, length-replicate, getD-replicate}
 use lib.Seq.{ext-getD}
+use lib.Dec.{eqb}
 use lib.Ieee.{Float, nan}
 use Rattle.injections.specs.declared.Injections.{Injections}
 use Rattle.injections.specs.Injections.{Ybus, injectionsOf}
 use Rattle.real.specs.Tests.{both-l, both-r}
 use Rattle.real.specs.Literals.{nought}
+use Rattle.real.specs.Paper.{Value, whole, real, placeIn, Paper, given, refused}
 use Rattle.layout.specs.Table.{stores}
 use Rattle.layout.specs.Table.Laws.{stores-length, stores-at, all-below}
+use Rattle.moves.specs.Moves.{lettersOf}
 use Rattle.qlim.specs.declared.Settled.{Settled}
 use Rattle.pf_ac.specs.declared.AcPf.{AcPf}
-use Rattle.pf_ac.specs.declared.AcPf.the-variants as AcPf
 use Rattle.pf_ac.specs.Search.{searched}
 use Rattle.pf_ac.specs.Network.{Network, buses, tripletsOf, Ready, acPfOf}
+use Rattle.tables.specs.declared.Checked.{Checked}
+use Rattle.tables.specs.declared.Checked.the-variants as Checked
 use Rattle.tables.specs.declared.Outcome.{Outcome}
 use Rattle.tables.specs.declared.Outcome.the-variants.{Solved, Counts, Room, Bus, NotConverged}
-use Rattle.tables.specs.Tables.{paperOf, Answer, Outs, outs, counted, roomy, numbered, writtenOf, zeros, answer, ranOf, solveOf}
+use Rattle.tables.specs.Tables.{paperOf, Answer, Outs, outs, Space, placesIn, counted, roomy, numbered, checkedOf, writtenOf, written, writeOf, zeros, ran, runOf, answer, afterCheck, solveOf}
 
--- ---- the ways out
+-- ---- the checks
 
-module _ (t : Network) (o : Outs) (w : List Float) where
-  pub out-counts : counted t ≡ false → answer (paperOf Counts) o w ≡ solveOf t o w
+module _ (t : Network) (m : Space) where
+  pub check-counts : counted t ≡ false → Checked.Counts ≡ checkedOf t m
+  unfolding checkedOf
+  check-counts h = rw h
+
+  pub check-room : counted t ≡ true → roomy t m ≡ false → Checked.Room ≡ checkedOf t m
+  unfolding checkedOf
+  check-room h hr = rw (h, hr)
+
+  pub check-bus : counted t ≡ true → roomy t m ≡ true → numbered t ≡ false → Checked.Bus ≡ checkedOf t m
+  unfolding checkedOf
+  check-bus h hr hn = rw (h, hr, hn)
+
+  pub check-ready : counted t ≡ true → roomy t m ≡ true → numbered t ≡ true → Checked.Ready ≡ checkedOf t m
+  unfolding checkedOf
+  check-ready h hr hn = rw (h, hr, hn)
+
+  -- what it tells that they are met
+  pub record Met : Type 0 where
+    pub is-counted : counted t ≡ true
+    pub is-roomy : roomy t m ≡ true
+    pub is-numbered : numbered t ≡ true
+
+  pub met : Checked.Ready ≡ checkedOf t m → Met
+  unfolding checkedOf
+  met e = go (counted t) (roomy t m) (numbered t) refl refl refl
+    where
+      go : (a b c : Bool) → counted t ≡ a → roomy t m ≡ b → numbered t ≡ c → Met
+      go true true true p q r = record { is-counted = p; is-roomy = q; is-numbered = r }
+      go true true false p q r = let k : Checked.Ready ≡ Checked.Bus = rw (p, q, r) at e in absurd (let z : _≡_ {A = ℕ} 0 1 = cc in omega arith)
+      go true false c p q r = let k : Checked.Ready ≡ Checked.Room = rw (p, q) at e in absurd (let z : _≡_ {A = ℕ} 0 1 = cc in omega arith)
+      go false b c p q r = let k : Checked.Ready ≡ Checked.Counts = rw p at e in absurd (let z : _≡_ {A = ℕ} 0 1 = cc in omega arith)
+
+-- ---- the run
+
+pub run-is : (t : Network) (w v v₀ : List Float) (found : AcPf) (best : Settled) → searched found best v ≡ acPfOf t w → v₀ ≡ zeros v → length v ≡ length w
+    → ran found best v₀ ≡ runOf t w
+unfolding runOf zeros
+run-is t w v v₀ found best e ev same = rw (← e, ev, same)
+
+-- ---- the call
+
+module _ (t : Network) (o : Outs) (w : List Float) (c : Checked) (h : c ≡ checkedOf t (placesIn o w)) where
+  pub solve-refused : (r : Outcome) → answer (paperOf r) o w ≡ afterCheck t o w c → answer (paperOf r) o w ≡ solveOf t o w
   unfolding solveOf
-  out-counts h = rw h
+  solve-refused r e = rw (← h) e
 
-  module _ (h : counted t ≡ true) where
-    pub out-room : roomy t o w ≡ false → answer (paperOf Room) o w ≡ solveOf t o w
-    unfolding solveOf
-    out-room hr = rw (h, hr)
-
-    module _ (hr : roomy t o w ≡ true) where
-      pub out-bus : numbered t ≡ false → answer (paperOf Bus) o w ≡ solveOf t o w
-      unfolding solveOf
-      out-bus hn = rw (h, hr, hn)
-
-      module _ (hn : numbered t ≡ true) (best : Settled) (v v₀ : List Float) (ev : v₀ ≡ zeros v) (same : length v ≡ length w) where
-        all-zeros : v₀ ≡ zeros w
-        unfolding zeros
-        all-zeros = rw (ev, same)
-
-        pub out-solved : (it : ℕ) (res : Float) → searched (AcPf.Solved it res) best v ≡ acPfOf t w → (e : Outs) → e ≡ writtenOf (buses t) (tripletsOf t) best o
-            → answer (paperOf (Solved it res)) e v₀ ≡ solveOf t o w
-        unfolding solveOf ranOf
-        out-solved it res er e ee = rw (h, hr, hn, ← er, ee, all-zeros)
-
-        pub out-short : (m : Float) (s : ℕ) → searched (AcPf.NotConverged m s) best v ≡ acPfOf t w → answer (paperOf (NotConverged m s)) o v₀ ≡ solveOf t o w
-        unfolding solveOf ranOf
-        out-short m s er = rw (h, hr, hn, ← er, all-zeros)
+  pub solve-ready : c ≡ Checked.Ready → (found : AcPf) (best : Settled) (v : List Float) → ran found best v ≡ runOf t w → (r : Outcome) (e : Outs)
+      → written (paperOf r) e ≡ writeOf (buses t) (tripletsOf t) found best o → answer (paperOf r) e v ≡ solveOf t o w
+  unfolding solveOf
+  solve-ready k found best v er r e ew = rw (← h, k, ← er, ← ew)
 
 -- a workspace written over with +0.0, place by place
 pub zeros-are : (w : List Float) → stores (λ b. nought) (length w) w ≡ zeros w
@@ -113,17 +140,17 @@ ready t h k =
       };
     }
 
-pub record Rooms (t : Network) (o : Outs) (w : List Float) : Type 0 where
-  pub vm : buses t ≤ length (o .vm)
-  pub va : buses t ≤ length (o .va)
-  pub p : buses t ≤ length (o .p)
-  pub q : buses t ≤ length (o .q)
-  pub kinds : buses t ≤ length (o .kinds)
-  pub space : 6144 ≤ length w
+pub record Rooms (n : ℕ) (m : Space) : Type 0 where
+  pub vm : n ≤ m .vm
+  pub va : n ≤ m .va
+  pub p : n ≤ m .p
+  pub q : n ≤ m .q
+  pub kinds : n ≤ m .kinds
+  pub space : 6144 ≤ m .space
 
-pub rooms : (t : Network) (o : Outs) (w : List Float) → roomy t o w ≡ true → Rooms t o w
+pub rooms : (t : Network) (m : Space) → roomy t m ≡ true → Rooms (buses t) m
 unfolding roomy
-rooms t o w h =
+rooms t m h =
     let h₁ = both-r _ _ h in
     let h₂ = both-r _ _ h₁ in
     let h₃ = both-r _ _ h₂ in
@@ -139,33 +166,25 @@ rooms t o w h =
 
 -- ---- the contract fixes everything
 
--- an answer on paper is that of one outcome
+-- the outcome that an answer on paper is of
+abbrev spent : List Value → Outcome
+spent [] = Counts
+spent (whole n ∷ vs) = Counts
+spent (real x ∷ vs) = NotConverged x (placeIn vs)
+
+abbrev back : Paper (ℕ × Float) → Outcome
+back (given found) = Solved (found .0) (found .1)
+back (refused n values) = cond (eqb n 7) Counts (cond (eqb n 9) Room (cond (eqb n 8) Bus (spent values)))
+
+back-paper : (r : Outcome) → back (paperOf r) ≡ r
+back-paper (Solved i x) = refl
+back-paper Counts = refl
+back-paper Room = refl
+back-paper Bus = refl
+back-paper (NotConverged m k) = refl
+
 pub paper-one : (r s : Outcome) → paperOf r ≡ paperOf s → r ≡ s
-paper-one (Solved i x) (Solved j y) e = let p : _≡_ {A = ℕ × Float} (i, x) (j, y) = cc in ap (λ (r : ℕ × Float). Solved (r .0) (r .1)) p
-paper-one (Solved i x) Counts e = cc
-paper-one (Solved i x) Room e = cc
-paper-one (Solved i x) Bus e = cc
-paper-one (Solved i x) (NotConverged m k) e = cc
-paper-one Counts (Solved j y) e = cc
-paper-one Counts Counts e = refl
-paper-one Counts Room e = cc
-paper-one Counts Bus e = cc
-paper-one Counts (NotConverged m k) e = cc
-paper-one Room (Solved j y) e = cc
-paper-one Room Counts e = cc
-paper-one Room Room e = refl
-paper-one Room Bus e = cc
-paper-one Room (NotConverged m k) e = cc
-paper-one Bus (Solved j y) e = cc
-paper-one Bus Counts e = cc
-paper-one Bus Room e = cc
-paper-one Bus Bus e = refl
-paper-one Bus (NotConverged m k) e = cc
-paper-one (NotConverged l h) (Solved j y) e = cc
-paper-one (NotConverged l h) Counts e = cc
-paper-one (NotConverged l h) Room e = cc
-paper-one (NotConverged l h) Bus e = cc
-paper-one (NotConverged l h) (NotConverged m k) e = cc
+paper-one r s e = sym (back-paper r) ∙ ap back e ∙ back-paper s
 
 -- two outcomes that meet the call's contract are equal, lent memory included
 pub solve-one : (t : Network) (o : Outs) (w : List Float) (r s : Outcome) (o₁ o₂ : Outs) (w₁ w₂ : List Float)
@@ -175,10 +194,10 @@ solve-one t o w r s o₁ o₂ w₁ w₂ h k =
     (paper-one r s (ap (λ (a : Answer). a .paper) e), ap (λ (a : Answer). a .columns) e, ap (λ (a : Answer). a .space) e)
 
 -- the five columns, each by itself
-pub written-is : (n : ℕ) (y : Ybus) (best : Settled) (o : Outs) (found : Injections) → found ≡ injectionsOf n y (best .point .vm) (best .point .va)
-    → (vm va p q : List Float) (kinds : List ℕ)
-    → vm ≡ stores (λ b. getD (best .point .vm) b nan) n (o .vm) → va ≡ stores (λ b. getD (best .point .va) b nan) n (o .va)
+pub written-is : (n : ℕ) (y : Ybus) (best : Settled) (o : Outs) (found : Injections) → found ≡ injectionsOf n y (best .ended .point .vm) (best .ended .point .va)
+    → (letters : List ℕ) → letters ≡ lettersOf n (best .kinds) → (vm va p q : List Float) (kinds : List ℕ)
+    → vm ≡ stores (λ b. getD (best .ended .point .vm) b nan) n (o .vm) → va ≡ stores (λ b. getD (best .ended .point .va) b nan) n (o .va)
     → p ≡ stores (λ b. getD (found .power .p) b nan) n (o .p) → q ≡ stores (λ b. getD (found .power .q) b nan) n (o .q)
-    → kinds ≡ stores (λ b. getD (best .letters) b 0) n (o .kinds) → outs vm va p q kinds ≡ writtenOf n y best o
+    → kinds ≡ stores (λ b. getD letters b 0) n (o .kinds) → outs vm va p q kinds ≡ writtenOf n y best o
 unfolding writtenOf
-written-is n y best o found ef vm va p q kinds em ea ep eq ek = rw (em, ea, ep, eq, ek, ef)
+written-is n y best o found ef letters el vm va p q kinds em ea ep eq ek = rw (em, ea, ep, eq, ek, el, ef)
