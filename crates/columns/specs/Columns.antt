@@ -9,6 +9,7 @@ use Rattle.fields.specs.Cut.{pieces}
 use Rattle.fields.specs.Digits.{busOf, numberIn}
 use Rattle.fields.specs.Real.{orNanOf, realIn}
 use Rattle.rows.specs.Rows.{rowsOf}
+use Rattle.network.specs.Network.{Buses, Slacks, Generators, Branches, Triplets, busesOf, slacksOf, generatorsOf, branchesOf, tripletsOf}
 
 abbrev pub rowCount : List ℕ → ℕ
 rowCount l = length (rowsOf l)
@@ -34,3 +35,23 @@ columnOf f l = map f (rowsOf l)
 -- "one place per row and none past them"
 abbrev pub filled : {A : Type 0} → (List ℕ → A) → List ℕ → List A → List A
 filled f l old = sets old 0 (columnOf f l)
+
+-- ---- each table, of its section's bytes: column j holds field j
+
+abbrev pub filledBuses : List ℕ → Buses → Buses
+filledBuses l t =
+    busesOf (filled (kindAt 0) l (t .kind)) (filled (realAt 1) l (t .vm-set)) (filled (realAt 2) l (t .pd)) (filled (realAt 3) l (t .qd))
+    (filled (realAt 4) l (t .pg)) (filled (realAt 5) l (t .qg)) (filled (realAt 6) l (t .vm-case)) (filled (realAt 7) l (t .va-case))
+
+abbrev pub filledSlacks : List ℕ → Slacks → Slacks
+filledSlacks l t = slacksOf (filled (numberAt 0) l (t .bus)) (filled (realAt 1) l (t .angle))
+
+abbrev pub filledGenerators : List ℕ → Generators → Generators
+filledGenerators l t = generatorsOf (filled (numberAt 0) l (t .bus)) (filled (realAt 1) l (t .qmin)) (filled (realAt 2) l (t .qmax))
+
+abbrev pub filledBranches : List ℕ → Branches → Branches
+filledBranches l t = branchesOf (filled (numberAt 0) l (t .from)) (filled (numberAt 1) l (t .to))
+
+abbrev pub filledTriplets : List ℕ → Triplets → Triplets
+filledTriplets l t =
+    tripletsOf (filled (numberAt 0) l (t .row)) (filled (numberAt 1) l (t .col)) (filled (realAt 2) l (t .re)) (filled (realAt 3) l (t .im))

@@ -6,7 +6,10 @@ ghost use mathlib.Core.List.{[]};
 ghost use lib.ListN.{length, getD};
 ghost use lib.Seq.{slice};
 ghost use Rattle.fields.specs.Cut.{pieces};
+ghost use Rattle.network.specs.Network.{Buses, Slacks, Generators, Branches, Triplets, busesOf, slacksOf, generatorsOf, branchesOf, tripletsOf};
+ghost use Rattle.network.specs.Network.{RoomBuses, RoomSlacks, RoomGenerators, RoomBranches, RoomTriplets};
 ghost use Rattle.columns.specs.Columns.{rowCount, filled, realAt, numberAt, kindAt};
+ghost use Rattle.columns.specs.Columns.{filledBuses, filledSlacks, filledGenerators, filledBranches, filledTriplets};
 
 // A part of the text.
 struct Part {
@@ -131,7 +134,7 @@ fn fill_buses_front(
     qd: &mut [f64],
 )
     requires { ⌜ (a ≤ e) × (e ≤ length (now s)) ⌝ }
-    requires { ⌜ (rowCount (slice a e (now s)) ≤ length (now kind)) × (rowCount (slice a e (now s)) ≤ length (now «vm_set»)) × (rowCount (slice a e (now s)) ≤ length (now pd)) × (rowCount (slice a e (now s)) ≤ length (now qd)) ⌝ }
+    requires { let r = rowCount (slice a e (now s)) in ⌜ (r ≤ length (now kind)) × (r ≤ length (now «vm_set»)) × (r ≤ length (now pd)) × (r ≤ length (now qd)) ⌝ }
     ensures { λ _. ⌜ (now (kind .exit) ≡ filled (kindAt 0) (slice a e (now (s .entry))) (now (kind .entry)))
         × (now («vm_set» .exit) ≡ filled (realAt 1) (slice a e (now (s .entry))) (now («vm_set» .entry)))
         × (now (pd .exit) ≡ filled (realAt 2) (slice a e (now (s .entry))) (now (pd .entry)))
@@ -154,7 +157,7 @@ fn fill_buses_back(
     va_case: &mut [f64],
 )
     requires { ⌜ (a ≤ e) × (e ≤ length (now s)) ⌝ }
-    requires { ⌜ (rowCount (slice a e (now s)) ≤ length (now pg)) × (rowCount (slice a e (now s)) ≤ length (now qg)) × (rowCount (slice a e (now s)) ≤ length (now «vm_case»)) × (rowCount (slice a e (now s)) ≤ length (now «va_case»)) ⌝ }
+    requires { let r = rowCount (slice a e (now s)) in ⌜ (r ≤ length (now pg)) × (r ≤ length (now qg)) × (r ≤ length (now «vm_case»)) × (r ≤ length (now «va_case»)) ⌝ }
     ensures { λ _. ⌜ (now (pg .exit) ≡ filled (realAt 4) (slice a e (now (s .entry))) (now (pg .entry)))
         × (now (qg .exit) ≡ filled (realAt 5) (slice a e (now (s .entry))) (now (qg .entry)))
         × (now («vm_case» .exit) ≡ filled (realAt 6) (slice a e (now (s .entry))) (now («vm_case» .entry)))
@@ -180,16 +183,11 @@ pub fn fill_buses(
     vm_case: &mut [f64],
     va_case: &mut [f64],
 )
-    requires { ⌜ (a ≤ e) × (e ≤ length (now s)) ⌝ }
-    requires { ⌜ (rowCount (slice a e (now s)) ≤ length (now kind)) × (rowCount (slice a e (now s)) ≤ length (now «vm_set»)) × (rowCount (slice a e (now s)) ≤ length (now pd)) × (rowCount (slice a e (now s)) ≤ length (now qd)) × (rowCount (slice a e (now s)) ≤ length (now pg)) × (rowCount (slice a e (now s)) ≤ length (now qg)) × (rowCount (slice a e (now s)) ≤ length (now «vm_case»)) × (rowCount (slice a e (now s)) ≤ length (now «va_case»)) ⌝ }
-    ensures { λ _. ⌜ (now (kind .exit) ≡ filled (kindAt 0) (slice a e (now (s .entry))) (now (kind .entry)))
-        × (now («vm_set» .exit) ≡ filled (realAt 1) (slice a e (now (s .entry))) (now («vm_set» .entry)))
-        × (now (pd .exit) ≡ filled (realAt 2) (slice a e (now (s .entry))) (now (pd .entry)))
-        × (now (qd .exit) ≡ filled (realAt 3) (slice a e (now (s .entry))) (now (qd .entry)))
-        × (now (pg .exit) ≡ filled (realAt 4) (slice a e (now (s .entry))) (now (pg .entry)))
-        × (now (qg .exit) ≡ filled (realAt 5) (slice a e (now (s .entry))) (now (qg .entry)))
-        × (now («vm_case» .exit) ≡ filled (realAt 6) (slice a e (now (s .entry))) (now («vm_case» .entry)))
-        × (now («va_case» .exit) ≡ filled (realAt 7) (slice a e (now (s .entry))) (now («va_case» .entry))) ⌝ }
+    ghost { Buses }
+    requires { λ t. ⌜ busesOf (now kind) (now «vm_set») (now pd) (now qd) (now pg) (now qg) (now «vm_case») (now «va_case») ≡ t ⌝ }
+    requires { λ t. ⌜ (a ≤ e) × (e ≤ length (now s)) × RoomBuses (rowCount (slice a e (now s))) t ⌝ }
+    ensures { λ t _. ⌜ busesOf (now (kind .exit)) (now («vm_set» .exit)) (now (pd .exit)) (now (qd .exit)) (now (pg .exit)) (now (qg .exit))
+        (now («vm_case» .exit)) (now («va_case» .exit)) ≡ filledBuses (slice a e (now (s .entry))) t ⌝ }
 {
     fill_buses_front(s, a, e, kind, vm_set, pd, qd);
     fill_buses_back(s, a, e, pg, qg, vm_case, va_case);
@@ -216,7 +214,7 @@ fn fill_generators(
     qmax: &mut [f64],
 )
     requires { ⌜ (a ≤ e) × (e ≤ length (now s)) ⌝ }
-    requires { ⌜ (rowCount (slice a e (now s)) ≤ length (now «gen_bus»)) × (rowCount (slice a e (now s)) ≤ length (now qmin)) × (rowCount (slice a e (now s)) ≤ length (now qmax)) ⌝ }
+    requires { let r = rowCount (slice a e (now s)) in ⌜ (r ≤ length (now «gen_bus»)) × (r ≤ length (now qmin)) × (r ≤ length (now qmax)) ⌝ }
     ensures { λ _. ⌜ (now («gen_bus» .exit) ≡ filled (numberAt 0) (slice a e (now (s .entry))) (now («gen_bus» .entry)))
         × (now (qmin .exit) ≡ filled (realAt 1) (slice a e (now (s .entry))) (now (qmin .entry)))
         × (now (qmax .exit) ≡ filled (realAt 2) (slice a e (now (s .entry))) (now (qmax .entry))) ⌝ }
@@ -248,7 +246,7 @@ fn fill_triplets(
     y_im: &mut [f64],
 )
     requires { ⌜ (a ≤ e) × (e ≤ length (now s)) ⌝ }
-    requires { ⌜ (rowCount (slice a e (now s)) ≤ length (now «y_row»)) × (rowCount (slice a e (now s)) ≤ length (now «y_col»)) × (rowCount (slice a e (now s)) ≤ length (now «y_re»)) × (rowCount (slice a e (now s)) ≤ length (now «y_im»)) ⌝ }
+    requires { let r = rowCount (slice a e (now s)) in ⌜ (r ≤ length (now «y_row»)) × (r ≤ length (now «y_col»)) × (r ≤ length (now «y_re»)) × (r ≤ length (now «y_im»)) ⌝ }
     ensures { λ _. ⌜ (now («y_row» .exit) ≡ filled (numberAt 0) (slice a e (now (s .entry))) (now («y_row» .entry)))
         × (now («y_col» .exit) ≡ filled (numberAt 1) (slice a e (now (s .entry))) (now («y_col» .entry)))
         × (now («y_re» .exit) ≡ filled (realAt 2) (slice a e (now (s .entry))) (now («y_re» .entry)))
@@ -272,13 +270,11 @@ pub fn fill_sources(
     qmin: &mut [f64],
     qmax: &mut [f64],
 )
-    requires { ⌜ (r ≤ g) × (g ≤ l) × (l ≤ length (now s)) ⌝ }
-    requires { ⌜ (rowCount (slice r g (now s)) ≤ length (now slacks)) × (rowCount (slice r g (now s)) ≤ length (now «va_slacks»)) × (rowCount (slice g l (now s)) ≤ length (now «gen_bus»)) × (rowCount (slice g l (now s)) ≤ length (now qmin)) × (rowCount (slice g l (now s)) ≤ length (now qmax)) ⌝ }
-    ensures { λ _. ⌜ (now (slacks .exit) ≡ filled (numberAt 0) (slice r g (now (s .entry))) (now (slacks .entry)))
-        × (now («va_slacks» .exit) ≡ filled (realAt 1) (slice r g (now (s .entry))) (now («va_slacks» .entry)))
-        × (now («gen_bus» .exit) ≡ filled (numberAt 0) (slice g l (now (s .entry))) (now («gen_bus» .entry)))
-        × (now (qmin .exit) ≡ filled (realAt 1) (slice g l (now (s .entry))) (now (qmin .entry)))
-        × (now (qmax .exit) ≡ filled (realAt 2) (slice g l (now (s .entry))) (now (qmax .entry))) ⌝ }
+    ghost { Slacks × Generators }
+    requires { λ t. ⌜ (slacksOf (now slacks) (now «va_slacks»), generatorsOf (now «gen_bus») (now qmin) (now qmax)) ≡ t ⌝ }
+    requires { λ (u, v). ⌜ (r ≤ g) × (g ≤ l) × (l ≤ length (now s)) × RoomSlacks (rowCount (slice r g (now s))) u × RoomGenerators (rowCount (slice g l (now s))) v ⌝ }
+    ensures { λ (u, v) _. ⌜ (slacksOf (now (slacks .exit)) (now («va_slacks» .exit)) ≡ filledSlacks (slice r g (now (s .entry))) u)
+        × (generatorsOf (now («gen_bus» .exit)) (now (qmin .exit)) (now (qmax .exit)) ≡ filledGenerators (slice g l (now (s .entry))) v) ⌝ }
 {
     fill_slacks(s, r, g, slacks, va_slacks);
     fill_generators(s, g, l, gen_bus, qmin, qmax);
@@ -297,14 +293,11 @@ pub fn fill_lines(
     y_re: &mut [f64],
     y_im: &mut [f64],
 )
-    requires { ⌜ (l ≤ y) × (y ≤ t) × (t ≤ length (now s)) ⌝ }
-    requires { ⌜ (rowCount (slice l y (now s)) ≤ length (now «br_from»)) × (rowCount (slice l y (now s)) ≤ length (now «br_to»)) × (rowCount (slice y t (now s)) ≤ length (now «y_row»)) × (rowCount (slice y t (now s)) ≤ length (now «y_col»)) × (rowCount (slice y t (now s)) ≤ length (now «y_re»)) × (rowCount (slice y t (now s)) ≤ length (now «y_im»)) ⌝ }
-    ensures { λ _. ⌜ (now («br_from» .exit) ≡ filled (numberAt 0) (slice l y (now (s .entry))) (now («br_from» .entry)))
-        × (now («br_to» .exit) ≡ filled (numberAt 1) (slice l y (now (s .entry))) (now («br_to» .entry)))
-        × (now («y_row» .exit) ≡ filled (numberAt 0) (slice y t (now (s .entry))) (now («y_row» .entry)))
-        × (now («y_col» .exit) ≡ filled (numberAt 1) (slice y t (now (s .entry))) (now («y_col» .entry)))
-        × (now («y_re» .exit) ≡ filled (realAt 2) (slice y t (now (s .entry))) (now («y_re» .entry)))
-        × (now («y_im» .exit) ≡ filled (realAt 3) (slice y t (now (s .entry))) (now («y_im» .entry))) ⌝ }
+    ghost { Branches × Triplets }
+    requires { λ α. ⌜ (branchesOf (now «br_from») (now «br_to»), tripletsOf (now «y_row») (now «y_col») (now «y_re») (now «y_im»)) ≡ α ⌝ }
+    requires { λ (u, v). ⌜ (l ≤ y) × (y ≤ t) × (t ≤ length (now s)) × RoomBranches (rowCount (slice l y (now s))) u × RoomTriplets (rowCount (slice y t (now s))) v ⌝ }
+    ensures { λ (u, v) _. ⌜ (branchesOf (now («br_from» .exit)) (now («br_to» .exit)) ≡ filledBranches (slice l y (now (s .entry))) u)
+        × (tripletsOf (now («y_row» .exit)) (now («y_col» .exit)) (now («y_re» .exit)) (now («y_im» .exit)) ≡ filledTriplets (slice y t (now (s .entry))) v) ⌝ }
 {
     fill_branches(s, l, y, br_from, br_to);
     fill_triplets(s, y, t, y_row, y_col, y_re, y_im);
