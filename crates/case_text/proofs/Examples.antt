@@ -7,6 +7,7 @@ use Prim.Native.Nat.{ℕ}
 use lib.ListN.{set}
 use lib.Seq.{sets}
 use lib.Ieee.{Float, nan, ofBits, div, neg, ofInt}
+use Rattle.real.specs.Tests.{both}
 use Rattle.real.specs.Paper.{given, refused, whole}
 use Rattle.real.specs.Literals.{lit, nought, one}
 use Rattle.fields.specs.Cut.{upto, past, has, pieces}
@@ -19,9 +20,9 @@ use Rattle.columns.specs.Columns.{columnOf, kindAt, realAt, numberAt}
 use Rattle.case_text.specs.Alphabet.{knownOf}
 use Rattle.trailer.specs.Trailer.{risingOf, trailerOf, bytesOf}
 use Rattle.case_text.specs.Text.{partOf, bodyOf, textOf}
-use Rattle.case_text.specs.Answer.{Columns, columns, roomOf, fitsOf, outcome, filledFrom, writtenOf, readOf}
-use Rattle.case_text.specs.Answer.Laws.{same-bytes, columns-same}
-use Rattle.case_text.specs.declared.Tables.{Tables}
+use Rattle.network.specs.Network.{Network, Slacks, busesOf, slacksOf, generatorsOf, branchesOf, tripletsOf, networkOf, rowsOf, roomOf, fitsOf}
+use Rattle.case_text.specs.Answer.{outcome, filledFrom, filledOf, readOf}
+use Rattle.case_text.specs.declared.Contents.{Contents}
 use Rattle.starts.specs.declared.AcStart.the-variants.{Flat}
 use Rattle.case_text.specs.declared.Reading.the-variants as Reading
 
@@ -30,10 +31,10 @@ abbrev pub listing : List ℕ
 listing =
     66 ∷ 32 ∷ 81 ∷ 32 ∷ 49 ∷ 32 ∷ 48 ∷ 32 ∷ 48 ∷ 32 ∷ 48 ∷ 32 ∷ 48 ∷ 32 ∷ 63 ∷ 32 ∷ 63 ∷ 10 ∷ 82 ∷ 32 ∷ 48 ∷ 32 ∷ 48 ∷ 10 ∷ 89 ∷ 32 ∷ 48 ∷ 32 ∷ 48 ∷ 32 ∷ 50 ∷ 32 ∷ 45 ∷ 56 ∷ 10 ∷ 70 ∷ 32 ∷ 48 ∷ 48 ∷ 48 ∷ 48 ∷ 48 ∷ 32 ∷ 48 ∷ 48 ∷ 48 ∷ 49 ∷ 56 ∷ 32 ∷ 48 ∷ 48 ∷ 48 ∷ 50 ∷ 52 ∷ 32 ∷ 48 ∷ 48 ∷ 48 ∷ 50 ∷ 52 ∷ 32 ∷ 48 ∷ 48 ∷ 48 ∷ 50 ∷ 52 ∷ 32 ∷ 48 ∷ 48 ∷ 48 ∷ 51 ∷ 53 ∷ 10 ∷ []
 
-abbrev pub listing-tables : Tables
-listing-tables = record { start = Flat; buses = 1; slacks = 1; generators = 0; branches = 0; triplets = 1 }
+abbrev pub listing-contents : Contents
+listing-contents = record { start = Flat; rows = rowsOf 1 1 0 0 1 }
 
-pub listing-text : textOf listing ≡ Reading.Good listing-tables
+pub listing-text : textOf listing ≡ Reading.Good listing-contents
 unfolding bytesOf partOf bodyOf trailerOf risingOf knownOf sectionOf fieldsOf allSome pieces upto past has digits number amountOf
 listing-text = refl
 
@@ -74,10 +75,17 @@ abbrev minus-eight : Float
 minus-eight = lit 0xc020_0000_0000_0000
 
 -- one bus, one slack row and one triplet, in the first places of the columns, whatever stood there
-abbrev pub listing-columns : Columns → Columns
-listing-columns (columns kind vmSet pd qd pg qg vmCase vaCase slacks vaSlacks genBus qmin qmax brFrom brTo yRow yCol yRe yIm) =
-    columns (set kind 0 81) (set vmSet 0 one) (set pd 0 nought) (set qd 0 nought) (set pg 0 nought) (set qg 0 nought) (set vmCase 0 nan) (set vaCase 0 nan)
-    (set slacks 0 0) (set vaSlacks 0 nought) genBus qmin qmax brFrom brTo (set yRow 0 0) (set yCol 0 0) (set yRe 0 two) (set yIm 0 minus-eight)
+abbrev pub listing-tables : Network → Network
+listing-tables t =
+    let b = t .buses in
+    let y = t .triplets in
+    networkOf
+    (busesOf (set (b .kind) 0 81) (set (b .vm-set) 0 one) (set (b .pd) 0 nought) (set (b .qd) 0 nought) (set (b .pg) 0 nought) (set (b .qg) 0 nought)
+    (set (b .vm-case) 0 nan) (set (b .va-case) 0 nan))
+    (slacksOf (set (t .slacks .bus) 0 0) (set (t .slacks .angle) 0 nought))
+    (t .generators)
+    (t .branches)
+    (tripletsOf (set (y .row) 0 0) (set (y .col) 0 0) (set (y .re) 0 two) (set (y .im) 0 minus-eight))
 
 values-B : (columnOf (kindAt 0) line-B ≡ 81 ∷ []) × (columnOf (realAt 1) line-B ≡ one ∷ []) × (columnOf (realAt 2) line-B ≡ nought ∷ []) × (columnOf (realAt 3) line-B ≡ nought ∷ []) × (columnOf (realAt 4) line-B ≡ nought ∷ []) × (columnOf (realAt 5) line-B ≡ nought ∷ []) × (columnOf (realAt 6) line-B ≡ nan ∷ []) × (columnOf (realAt 7) line-B ≡ nan ∷ [])
 unfolding ended pieces upto past has digits number amountOf ofBits div neg ofInt
@@ -95,30 +103,34 @@ nothing : {A : Type 0} (f : List ℕ → A) → columnOf f [] ≡ []
 unfolding ended pieces upto past has
 nothing f = refl
 
-lines-written : (old : Columns) → filledFrom line-B line-R [] [] line-Y old ≡ listing-columns old
-lines-written (columns kind vmSet pd qd pg qg vmCase vaCase slacks vaSlacks genBus qmin qmax brFrom brTo yRow yCol yRe yIm) =
-    columns-same _ _ _ _ _ _ _ _ _ _ _ _ _ _ _ _ _ _ _ _ _ _ _ _ _ _ _ _ _ _ _ _ _ _ _ _ _ _
-    (ap (sets kind 0) (values-B .0)) (ap (sets vmSet 0) (values-B .1)) (ap (sets pd 0) (values-B .2)) (ap (sets qd 0) (values-B .3))
-    (ap (sets pg 0) (values-B .4)) (ap (sets qg 0) (values-B .5)) (ap (sets vmCase 0) (values-B .6)) (ap (sets vaCase 0) (values-B .7))
-    (ap (sets slacks 0) (values-R .0)) (ap (sets vaSlacks 0) (values-R .1)) (ap (sets genBus 0) (nothing (numberAt 0))) (ap (sets qmin 0) (nothing (realAt 1)))
-    (ap (sets qmax 0) (nothing (realAt 2))) (ap (sets brFrom 0) (nothing (numberAt 0))) (ap (sets brTo 0) (nothing (numberAt 1))) (ap (sets yRow 0) (values-Y .0))
-    (ap (sets yCol 0) (values-Y .1)) (ap (sets yRe 0) (values-Y .2)) (ap (sets yIm 0) (values-Y .3))
+lines-written : (old : Network) → filledFrom line-B line-R [] [] line-Y old ≡ listing-tables old
+lines-written old = λ i.
+    let b = old .buses in
+    let g = old .generators in
+    let y = old .triplets in
+    networkOf
+    (busesOf (sets (b .kind) 0 (values-B .0 i)) (sets (b .vm-set) 0 (values-B .1 i)) (sets (b .pd) 0 (values-B .2 i)) (sets (b .qd) 0 (values-B .3 i))
+    (sets (b .pg) 0 (values-B .4 i)) (sets (b .qg) 0 (values-B .5 i)) (sets (b .vm-case) 0 (values-B .6 i)) (sets (b .va-case) 0 (values-B .7 i)))
+    (slacksOf (sets (old .slacks .bus) 0 (values-R .0 i)) (sets (old .slacks .angle) 0 (values-R .1 i)))
+    (generatorsOf (sets (g .bus) 0 (nothing (numberAt 0) i)) (sets (g .qmin) 0 (nothing (realAt 1) i)) (sets (g .qmax) 0 (nothing (realAt 2) i)))
+    (branchesOf (sets (old .branches .from) 0 (nothing (numberAt 0) i)) (sets (old .branches .to) 0 (nothing (numberAt 1) i)))
+    (tripletsOf (sets (y .row) 0 (values-Y .0 i)) (sets (y .col) 0 (values-Y .1 i)) (sets (y .re) 0 (values-Y .2 i)) (sets (y .im) 0 (values-Y .3 i)))
 
-listing-written : (old : Columns) → writtenOf listing 35 old ≡ listing-columns old
-unfolding writtenOf
-listing-written old = same-bytes _ _ _ _ _ line-B line-R [] [] line-Y old bytes-B bytes-R bytes-G bytes-L bytes-Y ∙ lines-written old
+listing-written : (old : Network) → filledOf listing 35 old ≡ listing-tables old
+unfolding filledOf
+listing-written old = (λ i. filledFrom (bytes-B i) (bytes-R i) (bytes-G i) (bytes-L i) (bytes-Y i) old) ∙ lines-written old
 
-pub listing-read : (old : Columns) → fitsOf listing-tables (roomOf old) ≡ true → readOf listing old ≡ outcome (given listing-tables) (listing-columns old)
+pub listing-read : (old : Network) → fitsOf (listing-contents .rows) (roomOf old) ≡ true → readOf listing old ≡ outcome (given listing-contents) (listing-tables old)
 unfolding readOf
-listing-read old h = rw (listing-text, h) (ap (outcome (given listing-tables)) (listing-written old))
+listing-read old h = rw (listing-text, h) (ap (outcome (given listing-contents)) (listing-written old))
 
 -- a bus line whose second field is `1.`
 abbrev pub point-text : List ℕ
 point-text =
     66 ∷ 32 ∷ 81 ∷ 32 ∷ 49 ∷ 46 ∷ 32 ∷ 48 ∷ 32 ∷ 48 ∷ 32 ∷ 48 ∷ 32 ∷ 48 ∷ 32 ∷ 63 ∷ 32 ∷ 63 ∷ 10 ∷ 70 ∷ 32 ∷ 48 ∷ 48 ∷ 48 ∷ 48 ∷ 48 ∷ 32 ∷ 48 ∷ 48 ∷ 48 ∷ 49 ∷ 57 ∷ 32 ∷ 48 ∷ 48 ∷ 48 ∷ 49 ∷ 57 ∷ 32 ∷ 48 ∷ 48 ∷ 48 ∷ 49 ∷ 57 ∷ 32 ∷ 48 ∷ 48 ∷ 48 ∷ 49 ∷ 57 ∷ 32 ∷ 48 ∷ 48 ∷ 48 ∷ 49 ∷ 57 ∷ 10 ∷ []
 
-pub point-refused : (old : Columns) → readOf point-text old ≡ outcome (refused 5 (whole 4 ∷ [])) old
-unfolding readOf writtenOf bytesOf partOf bodyOf trailerOf risingOf knownOf sectionOf ended fieldsOf allSome pieces upto past has digits number amountOf ofBits div neg ofInt
+pub point-refused : (old : Network) → readOf point-text old ≡ outcome (refused 5 (whole 4 ∷ [])) old
+unfolding readOf filledOf bytesOf partOf bodyOf trailerOf risingOf knownOf sectionOf ended fieldsOf allSome pieces upto past has digits number amountOf ofBits div neg ofInt
 point-refused old = refl
 
 -- two slack rows with the angles `-0` and `-0.25`
@@ -126,9 +138,12 @@ abbrev pub minus-text : List ℕ
 minus-text =
     82 ∷ 32 ∷ 48 ∷ 32 ∷ 45 ∷ 48 ∷ 10 ∷ 82 ∷ 32 ∷ 49 ∷ 32 ∷ 45 ∷ 48 ∷ 46 ∷ 50 ∷ 53 ∷ 10 ∷ 70 ∷ 32 ∷ 48 ∷ 48 ∷ 48 ∷ 48 ∷ 48 ∷ 32 ∷ 48 ∷ 48 ∷ 48 ∷ 48 ∷ 48 ∷ 32 ∷ 48 ∷ 48 ∷ 48 ∷ 49 ∷ 55 ∷ 32 ∷ 48 ∷ 48 ∷ 48 ∷ 49 ∷ 55 ∷ 32 ∷ 48 ∷ 48 ∷ 48 ∷ 49 ∷ 55 ∷ 32 ∷ 48 ∷ 48 ∷ 48 ∷ 49 ∷ 55 ∷ 10 ∷ []
 
+-- slack rows and no others
+abbrev no-rows : Slacks → Network
+no-rows r = networkOf (busesOf [] [] [] [] [] [] [] []) r (generatorsOf [] [] []) (branchesOf [] []) (tripletsOf [] [] [] [])
+
 pub minus-read : (i j : ℕ) (u v : Float)
-    → readOf minus-text (columns [] [] [] [] [] [] [] [] (i ∷ j ∷ []) (u ∷ v ∷ []) [] [] [] [] [] [] [] [] [])
-    ≡ outcome (given (record { start = Flat; buses = 0; slacks = 2; generators = 0; branches = 0; triplets = 0 }))
-    (columns [] [] [] [] [] [] [] [] (0 ∷ 1 ∷ []) (lit 0x8000_0000_0000_0000 ∷ lit 0xbfd0_0000_0000_0000 ∷ []) [] [] [] [] [] [] [] [] [])
-unfolding readOf writtenOf bytesOf partOf bodyOf trailerOf risingOf knownOf sectionOf ended fieldsOf allSome pieces upto past has digits number amountOf ofBits div neg ofInt
+    → readOf minus-text (no-rows (slacksOf (i ∷ j ∷ []) (u ∷ v ∷ [])))
+    ≡ outcome (given (record { start = Flat; rows = rowsOf 0 2 0 0 0 })) (no-rows (slacksOf (0 ∷ 1 ∷ []) (lit 0x8000_0000_0000_0000 ∷ lit 0xbfd0_0000_0000_0000 ∷ [])))
+unfolding both readOf filledOf bytesOf partOf bodyOf trailerOf risingOf knownOf sectionOf ended fieldsOf allSome pieces upto past has digits number amountOf ofBits div neg ofInt
 minus-read i j u v = refl

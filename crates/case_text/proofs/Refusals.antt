@@ -13,8 +13,9 @@ use Rattle.rows.specs.declared.Check.{Check}
 use Rattle.rows.specs.declared.Check.the-variants as Check
 use Rattle.case_text.proofs.Reading.{the-type as reading-type}
 use Rattle.case_text.specs.Text.{thenSection, refusedOf}
-use Rattle.case_text.specs.Answer.{Columns, withRoom, settledOf, outcome, paperOf}
-use Rattle.case_text.specs.declared.Room.{Room}
+use Rattle.case_text.specs.Answer.{withRoom, outcomeOf, outcome, paperOf}
+use Rattle.network.specs.declared.Rows.{Rows}
+use Rattle.network.specs.Network.{Network}
 use Rattle.case_text.specs.declared.Reading.{Reading}
 use Rattle.case_text.specs.declared.Reading.the-variants as Reading
 
@@ -44,12 +45,12 @@ refused-paper (Reading.Byte at) h = (3, at, omega arith, refl)
 refused-paper (Reading.Rows at) h = (6, at, omega arith, refl)
 refused-paper (Reading.Form at) h = (4, at, omega arith, refl)
 refused-paper (Reading.Field at) h = (5, at, omega arith, refl)
-refused-paper Reading.Short h = (9, 0, omega arith, refl)
+refused-paper Reading.Room h = (9, 0, omega arith, refl)
 
 -- refusal 9 does not come before it
-pub no-room : (v : Reading) (m : Room) → Refused v → withRoom v m ≡ v
+pub no-room : (v : Reading) (m : Rows) → Refused v → withRoom v m ≡ v
 no-room v m h = rw (refused-paper v h .3)
 
 -- and the columns stay as they were
-pub untouched : (s : List ℕ) (v : Reading) (old : Columns) → Refused v → settledOf s v old ≡ outcome (paperOf v) old
+pub untouched : (s : List ℕ) (v : Reading) (old : Network) → Refused v → outcomeOf s v old ≡ outcome (paperOf v) old
 untouched s v old h = rw (refused-paper v h .3)

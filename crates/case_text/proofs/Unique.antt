@@ -8,10 +8,11 @@ use Prim.Native.Nat.{ℕ, _-_}
 use lib.Dec.{eqb}
 use lib.ListN.{length}
 use Rattle.real.specs.Paper.{Paper, given, refused, placeIn, onGiven}
+use Rattle.network.specs.Network.{Network, roomOf, fitsOf}
 use Rattle.case_text.specs.Text.{textOf}
-use Rattle.case_text.specs.Answer.{paperOf, Columns, roomOf, fitsOf, judgedOf, writtenOf, Outcome, outcome, settledOf, readOf}
+use Rattle.case_text.specs.Answer.{paperOf, judgedOf, filledOf, Outcome, outcome, outcomeOf, readOf}
 use Rattle.case_text.specs.Answer.Laws.{with-room}
-use Rattle.case_text.specs.declared.Tables.{Tables}
+use Rattle.case_text.specs.declared.Contents.{Contents}
 use Rattle.case_text.specs.declared.Reading.{Reading}
 use Rattle.case_text.specs.declared.Reading.the-variants as Reading
 
@@ -24,9 +25,9 @@ numbered n at =
     (cond (eqb n 3) (Reading.Byte at)
     (cond (eqb n 6) (Reading.Rows at)
     (cond (eqb n 4) (Reading.Form at)
-    (cond (eqb n 5) (Reading.Field at) Reading.Short)))))
+    (cond (eqb n 5) (Reading.Field at) Reading.Room)))))
 
-abbrev back : Paper Tables → Reading
+abbrev back : Paper Contents → Reading
 back (given c) = Reading.Good c
 back (refused n values) = numbered n (placeIn values)
 
@@ -38,46 +39,46 @@ back-paper (Reading.Byte at) = refl
 back-paper (Reading.Rows at) = refl
 back-paper (Reading.Form at) = refl
 back-paper (Reading.Field at) = refl
-back-paper Reading.Short = refl
+back-paper Reading.Room = refl
 
 pub paper-tells : (r₁ r₂ : Reading) → paperOf r₁ ≡ paperOf r₂ → r₁ ≡ r₂
 paper-tells r₁ r₂ h = sym (back-paper r₁) ∙ ap back h ∙ back-paper r₂
 
-abbrev answer : Outcome → Paper Tables
+abbrev answer : Outcome → Paper Contents
 answer (outcome p c) = p
 
-abbrev left : Outcome → Columns
+abbrev left : Outcome → Network
 left (outcome p c) = c
 
 -- ---- two outcomes that meet the contract are equal, lent memory included
 
-pub same-outcome : (s : List ℕ) (old : Columns) (r₁ r₂ : Reading) (new₁ new₂ : Columns) → outcome (paperOf r₁) new₁ ≡ readOf s old
+pub same-outcome : (s : List ℕ) (old : Network) (r₁ r₂ : Reading) (new₁ new₂ : Network) → outcome (paperOf r₁) new₁ ≡ readOf s old
     → outcome (paperOf r₂) new₂ ≡ readOf s old → (r₁ ≡ r₂) × (new₁ ≡ new₂)
 same-outcome s old r₁ r₂ new₁ new₂ h k = let e = h ∙ sym k in (paper-tells r₁ r₂ (ap answer e), ap left e)
 
 -- ---- what it accepts, and what it leaves
 
-left-alone : (p : Paper Tables) (new old : Columns) → ((c : Tables) → p ≡ given c → ⊥) → onGiven p (λ c. new) old ≡ old
+left-alone : (p : Paper Contents) (new old : Network) → ((c : Contents) → p ≡ given c → ⊥) → onGiven p (λ c. new) old ≡ old
 left-alone (given c) new old h = absurd (h c refl)
 left-alone (refused number values) new old h = refl
 
-module _ (s : List ℕ) (old new : Columns) (r : Reading) (h : outcome (paperOf r) new ≡ readOf s old) where
+module _ (s : List ℕ) (old new : Network) (r : Reading) (h : outcome (paperOf r) new ≡ readOf s old) where
   -- the answer is the definition's
   pub answer-is : r ≡ judgedOf s (roomOf old)
   unfolding readOf
   answer-is = paper-tells r (judgedOf s (roomOf old)) (ap answer h)
 
   -- accepted if and only if the definition accepts the text and its rows fit
-  pub accepts : (c : Tables) → (r ≡ Reading.Good c) ↔ ((textOf s ≡ Reading.Good c) × (fitsOf c (roomOf old) ≡ true))
+  pub accepts : (c : Contents) → (r ≡ Reading.Good c) ↔ ((textOf s ≡ Reading.Good c) × (fitsOf (c .rows) (roomOf old) ≡ true))
   accepts c = (λ e. with-room (textOf s) (roomOf old) c (sym answer-is ∙ e), λ e. answer-is ∙ rw (e .0, e .1))
 
   -- and then the places written are the definition's values
-  pub writes : (c : Tables) → r ≡ Reading.Good c → new ≡ writtenOf s (length s - 38) old
+  pub writes : (c : Contents) → r ≡ Reading.Good c → new ≡ filledOf s (length s - 38) old
   unfolding readOf
-  writes c e = ap left h ∙ ap (λ (v : Reading). left (settledOf s v old)) (sym answer-is ∙ e)
+  writes c e = ap left h ∙ ap (λ (v : Reading). left (outcomeOf s v old)) (sym answer-is ∙ e)
 
   -- a refusal leaves every column untouched
-  pub refusal-writes-nothing : ((c : Tables) → r ≡ Reading.Good c → ⊥) → new ≡ old
+  pub refusal-writes-nothing : ((c : Contents) → r ≡ Reading.Good c → ⊥) → new ≡ old
   unfolding readOf
   refusal-writes-nothing k =
-      ap left h ∙ ap (λ (v : Reading). left (settledOf s v old)) (sym answer-is) ∙ left-alone (paperOf r) _ old (λ c e. k c (paper-tells r (Reading.Good c) e))
+      ap left h ∙ ap (λ (v : Reading). left (outcomeOf s v old)) (sym answer-is) ∙ left-alone (paperOf r) _ old (λ c e. k c (paper-tells r (Reading.Good c) e))

@@ -6,6 +6,7 @@ use mathlib.Core.List.{List}
 use lib.Dec.{ltb}
 use lib.ListN.{length, getD}
 use lib.Seq.{slice}
+use Rattle.network.specs.Network.{rowsOf}
 use Rattle.rows.specs.Rows.{checkOf}
 use Rattle.rows.specs.declared.Section.{Section}
 use Rattle.rows.specs.declared.Section.the-variants as Section
@@ -29,12 +30,12 @@ thenSection (Check.Field at) k = Reading.Field at
 
 -- what a section's refusal is of the text
 abbrev pub refusedOf : Check → Reading
-refusedOf v = thenSection v (λ n. Reading.Short)
+refusedOf v = thenSection v (λ n. Reading.Room)
 
 -- "Sections B, R, G, L, Y stand in that order"
 abbrev pub afterY : List ℕ → ℕ → ℕ → ℕ → ℕ → ℕ → ℕ → Reading
 afterY s t nb nr ng nl ny =
-    Reading.Good (record { start = modeOf (getD s t 0); buses = nb; slacks = nr; generators = ng; branches = nl; triplets = ny })
+    Reading.Good (record { start = modeOf (getD s t 0); rows = rowsOf nb nr ng nl ny })
 
 abbrev pub afterL : List ℕ → ℕ → ℕ → ℕ → ℕ → ℕ → Reading
 afterL s t nb nr ng nl = thenSection (partOf Section.Y s t) (afterY s t nb nr ng nl)

@@ -1,45 +1,34 @@
 // The case text: its length, its trailer, its alphabet, its sections in turn, and then its columns.
+use network::Rows;
 use starts::AcStart;
 ghost use mathlib.Core.Path.{_≡_};
 ghost use mathlib.Core.Bool.{true};
 ghost use Prim.Native.Nat.{_+_, _≤_, min};
 ghost use lib.ListN.{length};
 ghost use lib.Seq.{slice};
+ghost use Rattle.network.specs.Network.{busesOf, slacksOf, generatorsOf, branchesOf, tripletsOf, networkOf};
 ghost use Rattle.fields.specs.Cut.{has};
 ghost use Rattle.trailer.specs.Trailer.{trailerOf};
 ghost use Rattle.case_text.specs.Alphabet.{alphabet, knownOf};
 ghost use Rattle.case_text.specs.Text.{partOf, refusedOf, bodyOf, textOf};
-ghost use Rattle.case_text.specs.Answer.{columns, outcome, paperOf, readOf, fitsOf, judgedOf};
+ghost use Rattle.case_text.specs.Answer.{outcome, paperOf, readOf, judgedOf};
 
 // What a good text holds: its start, and the rows of each table.
-pub struct Tables {
+pub struct Contents {
     pub start: AcStart,
-    pub buses: usize,
-    pub slacks: usize,
-    pub generators: usize,
-    pub branches: usize,
-    pub triplets: usize,
+    pub rows: Rows,
 }
 
-// The answer: the tables, or one of the refusals 1, 2, 3, 6, 4, 5 with its place, or 9.
+// The answer: what the text holds, or one of the refusals 1, 2, 3, 6, 4, 5 with its place, or 9.
 pub enum Reading {
-    Good(Tables),
+    Good(Contents),
     Length(usize),
     Trailer(usize),
     Byte(usize),
     Rows(usize),
     Form(usize),
     Field(usize),
-    Short,
-}
-
-// The places that the shortest column of each table has.
-struct Room {
-    buses: usize,
-    slacks: usize,
-    generators: usize,
-    branches: usize,
-    triplets: usize,
+    Room,
 }
 
 // Whether a byte is of the alphabet.
@@ -78,7 +67,7 @@ fn refused(v: rows::Check) -> Reading
     ensures { λ r. ⌜ r ≡ refusedOf v ⌝ }
 {
     match v {
-        rows::Check::Good(_) => Reading::Short,
+        rows::Check::Good(_) => Reading::Room,
         rows::Check::Rows(at) => Reading::Rows(at),
         rows::Check::Form(at) => Reading::Form(at),
         rows::Check::Field(at) => Reading::Field(at),
@@ -110,13 +99,16 @@ fn body(s: &[u8], t: usize) -> Reading
     let rows::Check::Good(ny) = vy else {
         return refused(vy);
     };
-    Reading::Good(Tables {
-        start: trailer::mode(s[t]),
+    let rows = Rows {
         buses: nb,
         slacks: nr,
         generators: ng,
         branches: nl,
         triplets: ny,
+    };
+    Reading::Good(Contents {
+        start: trailer::mode(s[t]),
+        rows,
     })
 }
 
@@ -154,37 +146,19 @@ fn least8(a: usize, b: usize, c: usize, d: usize, e: usize, f: usize, g: usize, 
     real::least(least4(a, b, c, d), least4(e, f, g, h))
 }
 
-// Whether each table's rows fit its shortest column.
-fn fits(c: Tables, room: Room) -> bool
-    ensures { λ r. ⌜ r ≡ fitsOf c room ⌝ }
-{
-    if room.buses < c.buses {
-        return false;
-    }
-    if room.slacks < c.slacks {
-        return false;
-    }
-    if room.generators < c.generators {
-        return false;
-    }
-    if room.branches < c.branches {
-        return false;
-    }
-    c.triplets <= room.triplets
-}
-
 // The answer: the whole text, and then refusal 9.
-fn judge(s: &[u8], room: Room) -> Reading
+fn judge(s: &[u8], room: Rows) -> Reading
     ensures { λ r. ⌜ r ≡ judgedOf (now (s .entry)) room ⌝ }
 {
     let v = check_text(s);
     let Reading::Good(c) = v else {
         return v;
     };
-    if fits(c, room) {
+    let rows = c.rows;
+    if network::fits(rows, room) {
         return v;
     }
-    Reading::Short
+    Reading::Room
 }
 
 // Reads a case text: all 19 columns where it is good, one place per row, and none of them where it is refused.
@@ -210,10 +184,22 @@ pub fn read_case(
     y_re: &mut [f64],
     y_im: &mut [f64],
 ) -> Reading
-    ensures { λ r. ⌜ outcome (paperOf r) (columns (now (kind .exit)) (now («vm_set» .exit)) (now (pd .exit)) (now (qd .exit)) (now (pg .exit)) (now (qg .exit)) (now («vm_case» .exit)) (now («va_case» .exit)) (now (slacks .exit)) (now («va_slacks» .exit)) (now («gen_bus» .exit)) (now (qmin .exit)) (now (qmax .exit)) (now («br_from» .exit)) (now («br_to» .exit)) (now («y_row» .exit)) (now («y_col» .exit)) (now («y_re» .exit)) (now («y_im» .exit)))
-        ≡ readOf (now (text .entry)) (columns (now (kind .entry)) (now («vm_set» .entry)) (now (pd .entry)) (now (qd .entry)) (now (pg .entry)) (now (qg .entry)) (now («vm_case» .entry)) (now («va_case» .entry)) (now (slacks .entry)) (now («va_slacks» .entry)) (now («gen_bus» .entry)) (now (qmin .entry)) (now (qmax .entry)) (now («br_from» .entry)) (now («br_to» .entry)) (now («y_row» .entry)) (now («y_col» .entry)) (now («y_re» .entry)) (now («y_im» .entry))) ⌝ }
+    ensures { λ r.
+        let old = networkOf
+            (busesOf (now (kind .entry)) (now («vm_set» .entry)) (now (pd .entry)) (now (qd .entry)) (now (pg .entry)) (now (qg .entry)) (now («vm_case» .entry)) (now («va_case» .entry)))
+            (slacksOf (now (slacks .entry)) (now («va_slacks» .entry)))
+            (generatorsOf (now («gen_bus» .entry)) (now (qmin .entry)) (now (qmax .entry)))
+            (branchesOf (now («br_from» .entry)) (now («br_to» .entry)))
+            (tripletsOf (now («y_row» .entry)) (now («y_col» .entry)) (now («y_re» .entry)) (now («y_im» .entry))) in
+        let new = networkOf
+            (busesOf (now (kind .exit)) (now («vm_set» .exit)) (now (pd .exit)) (now (qd .exit)) (now (pg .exit)) (now (qg .exit)) (now («vm_case» .exit)) (now («va_case» .exit)))
+            (slacksOf (now (slacks .exit)) (now («va_slacks» .exit)))
+            (generatorsOf (now («gen_bus» .exit)) (now (qmin .exit)) (now (qmax .exit)))
+            (branchesOf (now («br_from» .exit)) (now («br_to» .exit)))
+            (tripletsOf (now («y_row» .exit)) (now («y_col» .exit)) (now («y_re» .exit)) (now («y_im» .exit))) in
+        ⌜ outcome (paperOf r) new ≡ readOf (now (text .entry)) old ⌝ }
 {
-    let room = Room {
+    let room = Rows {
         buses: least8(
             kind.len(),
             vm_set.len(),

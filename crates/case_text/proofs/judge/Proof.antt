@@ -11,13 +11,13 @@ returns c = let v = c .before .check-text in rw (← v .ensures) (sym (no-room (
 returns-2 : tie.Need-returns-2
 returns-2 c =
     let f = c .before in
-    let v = f .before .before in
+    let v = f .before .before .before in
     rw (← v .before .before .check-text .ensures, v .v .given .1, ← f .fits2 .ensures, c .if1 .taken)
 
 returns-3 : tie.Need-returns-3
 returns-3 c =
     let f = c .before in
-    let v = f .before .before in
+    let v = f .before .before .before in
     rw (← v .before .before .check-text .ensures, v .v .given .1, ← f .fits2 .ensures, c .if1 .left)
 
 pub judge-spec : {M : Type 1} → statement M

@@ -1,17 +1,18 @@
--- Where the sections of an answered text lie, that its rows fit, and what the columns then are. Assumes nothing.
-use mathlib.Core.Path.{_≡_, refl, sym, ap}
+-- Where the sections of an answered text lie, that its rows fit, and what the tables then are. Assumes nothing.
+use mathlib.Core.Path.{_≡_, refl, sym, ap, _∙_}
 use mathlib.Core.Bool.{true, cond}
 use mathlib.Core.Logic.{⊎-elim}
 use mathlib.Core.List.{List}
-use Prim.Native.Nat.{ℕ, _-_, _≤_, min}
+use Prim.Native.Nat.{ℕ, _-_, _≤_}
 use native.Mathlib.Omega.{arith}
-use lib.Dec.{leb}
-use lib.Ieee.{Float}
 use lib.ListN.{length}
 use lib.Seq.{slice}
-use borrow.Author.Tests.{leb-true}
-use Rattle.real.specs.Tests.{decided, no-case, and-left, and-right}
+use Rattle.real.specs.Tests.{decided, no-case}
 use Rattle.real.specs.Paper.{Paper, given, refused, onGiven}
+use Rattle.network.specs.declared.Rows.{Rows}
+use Rattle.network.specs.Network.{Network, RoomBuses, RoomSlacks, RoomGenerators, RoomBranches, RoomTriplets, AtMost, roomOf, fitsOf}
+use Rattle.network.specs.Network.Laws.{fits-at-most, room-buses, room-slacks, room-generators, room-branches, room-triplets}
+use Rattle.network.specs.Checks.{sizes}
 use Rattle.rows.specs.Asked.{sizeOf}
 use Rattle.rows.specs.Printed.Laws.{section-rows, section-most}
 use Rattle.rows.specs.declared.Section.{Section}
@@ -22,32 +23,32 @@ use Rattle.trailer.specs.Trailer.{startOf, bytesOf, placesOf}
 use Rattle.trailer.specs.Trailer.Laws.{within}
 use Rattle.case_text.specs.Text.{partOf, textOf}
 use Rattle.case_text.specs.Text.Laws.{Accepted, accepted-has}
-use Rattle.case_text.specs.Answer.{Columns, columns, roomOf, fitsOf, withRoom, judgedOf, filledFrom, writtenOf, outcome, paperOf, settledOf, readOf}
-use Rattle.case_text.specs.declared.Tables.{Tables}
-use Rattle.case_text.specs.declared.Room.{Room}
+use Rattle.case_text.specs.Answer.{withRoom, judgedOf, filledFrom, filledOf, outcome, paperOf, outcomeOf, readOf}
+use Rattle.case_text.specs.declared.Contents.{Contents}
 use Rattle.trailer.specs.declared.Places.{Places}
 use Rattle.case_text.specs.declared.Reading.{Reading}
 use Rattle.case_text.specs.declared.Reading.the-variants as Reading
 
 -- ---- a good answer: the text is accepted, and its rows fit
 
-pub record Fitting (s : List ℕ) (m : Room) (c : Tables) : Type 0 where
+pub record Fitting (s : List ℕ) (m : Rows) (c : Contents) : Type 0 where
   pub accepted : Accepted s (length s - 38) c
-  pub fits : fitsOf c m ≡ true
+  pub fits : fitsOf (c .rows) m ≡ true
 
 -- the text is good and its rows fit, where the answer is good
-pub with-room : (v : Reading) (m : Room) (c : Tables) → withRoom v m ≡ Reading.Good c → (v ≡ Reading.Good c) × (fitsOf c m ≡ true)
+pub with-room : (v : Reading) (m : Rows) (c : Contents) → withRoom v m ≡ Reading.Good c → (v ≡ Reading.Good c) × (fitsOf (c .rows) m ≡ true)
 with-room v m c h = go (paperOf v) refl h
   where
-    go : (p : Paper Tables) → paperOf v ≡ p → onGiven p (λ d. cond (fitsOf d m) v Reading.Short) v ≡ Reading.Good c → (v ≡ Reading.Good c) × (fitsOf c m ≡ true)
+    go : (p : Paper Contents) → paperOf v ≡ p → onGiven p (λ d. cond (fitsOf (d .rows) m) v Reading.Room) v ≡ Reading.Good c
+        → (v ≡ Reading.Good c) × (fitsOf (c .rows) m ≡ true)
     go (given d) e h =
         ⊎-elim
         (λ q. let g : v ≡ Reading.Good c = rw q at h in let i : d ≡ c = cc (ap paperOf g) in (g, rw i at q))
-        (λ q. let g : Reading.Short ≡ Reading.Good c = rw q at h in no-case cc)
-        (decided (fitsOf d m))
+        (λ q. let g : Reading.Room ≡ Reading.Good c = rw q at h in no-case cc)
+        (decided (fitsOf (d .rows) m))
     go (refused number values) e g = no-case (cc (ap paperOf g))
 
-pub fitting : (s : List ℕ) (m : Room) (c : Tables) → judgedOf s m ≡ Reading.Good c → Fitting s m c
+pub fitting : (s : List ℕ) (m : Rows) (c : Contents) → judgedOf s m ≡ Reading.Good c → Fitting s m c
 fitting s m c h = let e = with-room (textOf s) m c h in record { accepted = accepted-has s c (e .0); fits = e .1 }
 
 -- ---- the sections' places, and that each table's rows fit its columns
@@ -61,34 +62,38 @@ unfolding partOf
 part-most z s t n h = section-most z (startOf z s t) (bytesOf z s t) n h
 
 -- the rows of an accepted text are within the sizes
-pub rows-most : (s : List ℕ) (t : ℕ) (c : Tables) → Accepted s t c
-    → (c .buses ≤ 32) × (c .slacks ≤ 32) × (c .generators ≤ 32) × (c .branches ≤ 64) × (c .triplets ≤ 256)
+pub rows-most : (s : List ℕ) (t : ℕ) (c : Contents) → Accepted s t c → AtMost (c .rows) sizes
 rows-most s t c a =
     let b = a .body in
-    (part-most Section.B s t _ (b .buses), part-most Section.R s t _ (b .slacks), part-most Section.G s t _ (b .generators), part-most Section.L s t _ (b .branches), part-most Section.Y s t _ (b .triplets))
+    record {
+      buses = part-most Section.B s t _ (b .buses);
+      slacks = part-most Section.R s t _ (b .slacks);
+      generators = part-most Section.G s t _ (b .generators);
+      branches = part-most Section.L s t _ (b .branches);
+      triplets = part-most Section.Y s t _ (b .triplets);
+    }
 
-pub record Placed (s : List ℕ) (m : Room) (p : Places) : Type 0 where
+-- the sections lie one behind the other in the text, and each table has a place for each of its rows
+pub record Placed (s : List ℕ) (old : Network) (p : Places) : Type 0 where
   pub br : p .b ≤ p .r
   pub rg : p .r ≤ p .g
   pub gl : p .g ≤ p .l
   pub ly : p .l ≤ p .y
   pub yt : p .y ≤ p .t
   pub end : p .t ≤ length s
-  pub buses : rowCount (slice (p .b) (p .r) s) ≤ m .buses
-  pub slacks : rowCount (slice (p .r) (p .g) s) ≤ m .slacks
-  pub generators : rowCount (slice (p .g) (p .l) s) ≤ m .generators
-  pub branches : rowCount (slice (p .l) (p .y) s) ≤ m .branches
-  pub triplets : rowCount (slice (p .y) (p .t) s) ≤ m .triplets
+  pub buses : RoomBuses (rowCount (slice (p .b) (p .r) s)) (old .buses)
+  pub slacks : RoomSlacks (rowCount (slice (p .r) (p .g) s)) (old .slacks)
+  pub generators : RoomGenerators (rowCount (slice (p .g) (p .l) s)) (old .generators)
+  pub branches : RoomBranches (rowCount (slice (p .l) (p .y) s)) (old .branches)
+  pub triplets : RoomTriplets (rowCount (slice (p .y) (p .t) s)) (old .triplets)
 
-placed-at : (s : List ℕ) (m : Room) (c : Tables) → Fitting s m c → Placed s m (placesOf s (length s - 38))
+placed-at : (s : List ℕ) (old : Network) (c : Contents) → Fitting s (roomOf old) c → Placed s old (placesOf s (length s - 38))
 unfolding bytesOf
-placed-at s m c f =
+placed-at s old c f =
     let t = length s - 38 in
     let a = f .accepted in
     let w = within s t (a .trailer) in
-    let q₁ = and-right (leb (c .buses) (m .buses)) _ (f .fits) in
-    let q₂ = and-right (leb (c .slacks) (m .slacks)) _ q₁ in
-    let q₃ = and-right (leb (c .generators) (m .generators)) _ q₂ in
+    let m = fits-at-most (c .rows) (roomOf old) (f .fits) in
     record {
       br = w Section.B .ordered;
       rg = w Section.R .ordered;
@@ -96,81 +101,42 @@ placed-at s m c f =
       ly = w Section.L .ordered;
       yt = w Section.Y .ordered;
       end = omega (arith, w Section.Y .inside, a .least);
-      buses = rw (← part-rows Section.B s t (c .buses) (a .body .buses)) (leb-true _ _ (and-left _ _ (f .fits)));
-      slacks = rw (← part-rows Section.R s t (c .slacks) (a .body .slacks)) (leb-true _ _ (and-left _ _ q₁));
-      generators = rw (← part-rows Section.G s t (c .generators) (a .body .generators)) (leb-true _ _ (and-left _ _ q₂));
-      branches = rw (← part-rows Section.L s t (c .branches) (a .body .branches)) (leb-true _ _ (and-left _ _ q₃));
-      triplets = rw (← part-rows Section.Y s t (c .triplets) (a .body .triplets)) (leb-true _ _ (and-right (leb (c .branches) (m .branches)) _ q₃));
+      buses = room-buses _ _ (rw (← part-rows Section.B s t (c .rows .buses) (a .body .buses)) (m .buses));
+      slacks = room-slacks _ _ (rw (← part-rows Section.R s t (c .rows .slacks) (a .body .slacks)) (m .slacks));
+      generators = room-generators _ _ (rw (← part-rows Section.G s t (c .rows .generators) (a .body .generators)) (m .generators));
+      branches = room-branches _ _ (rw (← part-rows Section.L s t (c .rows .branches) (a .body .branches)) (m .branches));
+      triplets = room-triplets _ _ (rw (← part-rows Section.Y s t (c .rows .triplets) (a .body .triplets)) (m .triplets));
     }
 
-pub placed : (s : List ℕ) (m : Room) (c : Tables) (p : Places) → judgedOf s m ≡ Reading.Good c → p ≡ placesOf s (length s - 38) → Placed s m p
-placed s m c p h q = rw q (placed-at s m c (fitting s m c h))
+pub placed : (s : List ℕ) (old : Network) (m : Rows) (c : Contents) (p : Places) → m ≡ roomOf old → judgedOf s m ≡ Reading.Good c → p ≡ placesOf s (length s - 38)
+    → Placed s old p
+placed s old m c p r h e = rw e (placed-at s old c (fitting s (roomOf old) c (rw r at h)))
 
--- each section ends in the text
-pub ends : {s : List ℕ} {m : Room} {p : Places} → Placed s m p → (p .r ≤ length s) × (p .l ≤ length s)
+pub ends : {s : List ℕ} {old : Network} {p : Places} → Placed s old p → (p .r ≤ length s) × (p .l ≤ length s)
 ends w = (omega (arith, w .rg, w .gl, w .ly, w .yt, w .end), omega (arith, w .ly, w .yt, w .end))
 
--- ---- rooms
+-- ---- the tables
 
-pub same-room : (b r g l y b′ r′ g′ l′ y′ : ℕ) → b ≡ b′ → r ≡ r′ → g ≡ g′ → l ≡ l′ → y ≡ y′
-    → _≡_ {A = Room} (record { buses = b; slacks = r; generators = g; branches = l; triplets = y }) (record { buses = b′; slacks = r′; generators = g′; branches = l′; triplets = y′ })
-same-room b r g l y b′ r′ g′ l′ y′ p q u v w = rw (p, q, u, v, w)
-
--- at most the least is at most each
-pub under2 : (n a b : ℕ) → n ≤ min a b → (n ≤ a) × (n ≤ b)
-under2 n a b h = omega arith
-
-pub under3 : (n a b c : ℕ) → n ≤ min (min a b) c → (n ≤ a) × (n ≤ b) × (n ≤ c)
-under3 n a b c h = let u = under2 n (min a b) c h in let v = under2 n a b (u .0) in (v .0, v .1, u .1)
-
-pub under4 : (n a b c d : ℕ) → n ≤ min (min a b) (min c d) → (n ≤ a) × (n ≤ b) × (n ≤ c) × (n ≤ d)
-under4 n a b c d h =
-    let u = under2 n (min a b) (min c d) h in
-    let v = under2 n a b (u .0) in
-    let w = under2 n c d (u .1) in
-    (v .0, v .1, w .0, w .1)
-
-pub under8 : (n a b c d e f g h : ℕ) → n ≤ min (min (min a b) (min c d)) (min (min e f) (min g h))
-    → (n ≤ a) × (n ≤ b) × (n ≤ c) × (n ≤ d) × (n ≤ e) × (n ≤ f) × (n ≤ g) × (n ≤ h)
-under8 n a b c d e f g h k =
-    let u = under2 n (min (min a b) (min c d)) (min (min e f) (min g h)) k in
-    let v = under4 n a b c d (u .0) in
-    let w = under4 n e f g h (u .1) in
-    (v .0, v .1, v .2, v .3, w .0, w .1, w .2, w .3)
-
--- ---- the columns
-
--- as `writtenOf`, of the places
-abbrev pub writtenBy : List ℕ → Places → Columns → Columns
-writtenBy s p old =
+-- as `filledOf`, of the places
+abbrev pub filledBy : List ℕ → Places → Network → Network
+filledBy s p old =
     filledFrom (slice (p .b) (p .r) s) (slice (p .r) (p .g) s) (slice (p .g) (p .l) s) (slice (p .l) (p .y) s) (slice (p .y) (p .t) s) old
 
-written-at : (s : List ℕ) (t : ℕ) (old : Columns) → writtenOf s t old ≡ writtenBy s (placesOf s t) old
-unfolding writtenOf bytesOf
-written-at s t old = refl
-
--- the columns of the same bytes
-pub same-bytes : (b r g l y b′ r′ g′ l′ y′ : List ℕ) (old : Columns) → b ≡ b′ → r ≡ r′ → g ≡ g′ → l ≡ l′ → y ≡ y′
-    → filledFrom b r g l y old ≡ filledFrom b′ r′ g′ l′ y′ old
-same-bytes b r g l y b′ r′ g′ l′ y′ old p q u v w = rw (p, q, u, v, w)
-
-pub columns-same : (kind slacks genBus brFrom brTo yRow yCol kind′ slacks′ genBus′ brFrom′ brTo′ yRow′ yCol′ : List ℕ) (vmSet pd qd pg qg vmCase vaCase vaSlacks qmin qmax yRe yIm vmSet′ pd′ qd′ pg′ qg′ vmCase′ vaCase′ vaSlacks′ qmin′ qmax′ yRe′ yIm′ : List Float)
-    → kind ≡ kind′ → vmSet ≡ vmSet′ → pd ≡ pd′ → qd ≡ qd′ → pg ≡ pg′ → qg ≡ qg′ → vmCase ≡ vmCase′ → vaCase ≡ vaCase′ → slacks ≡ slacks′ → vaSlacks ≡ vaSlacks′ → genBus ≡ genBus′ → qmin ≡ qmin′ → qmax ≡ qmax′ → brFrom ≡ brFrom′ → brTo ≡ brTo′ → yRow ≡ yRow′ → yCol ≡ yCol′ → yRe ≡ yRe′ → yIm ≡ yIm′
-    → columns kind vmSet pd qd pg qg vmCase vaCase slacks vaSlacks genBus qmin qmax brFrom brTo yRow yCol yRe yIm ≡ columns kind′ vmSet′ pd′ qd′ pg′ qg′ vmCase′ vaCase′ slacks′ vaSlacks′ genBus′ qmin′ qmax′ brFrom′ brTo′ yRow′ yCol′ yRe′ yIm′
-columns-same kind slacks genBus brFrom brTo yRow yCol kind′ slacks′ genBus′ brFrom′ brTo′ yRow′ yCol′ vmSet pd qd pg qg vmCase vaCase vaSlacks qmin qmax yRe yIm vmSet′ pd′ qd′ pg′ qg′ vmCase′ vaCase′ vaSlacks′ qmin′ qmax′ yRe′ yIm′ e0 e1 e2 e3 e4 e5 e6 e7 e8 e9 e10 e11 e12 e13 e14 e15 e16 e17 e18 =
-    rw (e0, e1, e2, e3, e4, e5, e6, e7, e8, e9, e10, e11, e12, e13, e14, e15, e16, e17, e18)
+filled-at : (s : List ℕ) (t : ℕ) (old : Network) → filledOf s t old ≡ filledBy s (placesOf s t) old
+unfolding filledOf bytesOf
+filled-at s t old = refl
 
 -- ---- the answer
 
-module _ (s : List ℕ) (old : Columns) (m : Room) (v : Reading) (r : m ≡ roomOf old) (h : v ≡ judgedOf s m) where
+module _ (s : List ℕ) (old : Network) (m : Rows) (v : Reading) (r : m ≡ roomOf old) (h : v ≡ judgedOf s m) where
   judged : judgedOf s (roomOf old) ≡ v
-  judged = rw (← r) (sym h)
+  judged = ap (judgedOf s) (sym r) ∙ sym h
 
-  pub read-good : (c : Tables) (p : Places) (new : Columns) → v ≡ Reading.Good c → p ≡ placesOf s (length s - 38) → new ≡ writtenBy s p old
+  pub read-good : (c : Contents) (p : Places) (new : Network) → v ≡ Reading.Good c → p ≡ placesOf s (length s - 38) → new ≡ filledBy s p old
       → outcome (paperOf v) new ≡ readOf s old
   unfolding readOf
-  read-good c p new g q w = rw (judged, g, w, q, written-at s (length s - 38) old)
+  read-good c p new g q w = rw (judged, g, w, q, filled-at s (length s - 38) old)
 
-  pub read-refused : settledOf s v old ≡ outcome (paperOf v) old → outcome (paperOf v) old ≡ readOf s old
+  pub read-refused : outcomeOf s v old ≡ outcome (paperOf v) old → outcome (paperOf v) old ≡ readOf s old
   unfolding readOf
   read-refused k = rw judged (sym k)

@@ -24,7 +24,7 @@ use Rattle.trailer.specs.Trailer.Laws.{first-group, groups-after, Good, good, r
 use Rattle.case_text.specs.Text.{partOf, textOf}
 use Rattle.case_text.specs.Text.Laws.{accepted-has}
 use Rattle.case_text.specs.Printed.{rowsPrinted, groupsPrinted, trailerPrinted, textPrinted}
-use Rattle.case_text.specs.declared.Tables.{Tables}
+use Rattle.case_text.specs.declared.Contents.{Contents}
 use Rattle.case_text.specs.declared.Reading.the-variants as Reading
 
 slice-join : (s : List ℕ) (a b : ℕ) → a ≤ b → b ≤ length s → slice a b s ++ drop b s ≡ drop a s
@@ -80,7 +80,7 @@ end-inside s z w h = omega (arith, w .inside)
 
 -- ---- the whole
 
-pub text-printed : (s : List ℕ) (c : Tables) → textOf s ≡ Reading.Good c → s ≡ textPrinted s (length s - 38)
+pub text-printed : (s : List ℕ) (c : Contents) → textOf s ≡ Reading.Good c → s ≡ textPrinted s (length s - 38)
 text-printed s c h =
     let t = length s - 38 in
     let a = accepted-has s c h in
@@ -89,11 +89,11 @@ text-printed s c h =
     let w = within s t (a .trailer) in
     let b = a .body in
     ap (λ (n : ℕ). drop n s) (sym (g .zero-first))
-    ∙ part-printed Section.B s t (c .buses) _ (w Section.B .ordered) (end-inside s Section.B (w Section.B) (a .least)) (b .buses)
-    (part-printed Section.R s t (c .slacks) _ (w Section.R .ordered) (end-inside s Section.R (w Section.R) (a .least)) (b .slacks)
-    (part-printed Section.G s t (c .generators) _ (w Section.G .ordered) (end-inside s Section.G (w Section.G) (a .least)) (b .generators)
-    (part-printed Section.L s t (c .branches) _ (w Section.L .ordered) (end-inside s Section.L (w Section.L) (a .least)) (b .branches)
-    (part-printed Section.Y s t (c .triplets) _ (w Section.Y .ordered) (end-inside s Section.Y (w Section.Y) (a .least)) (b .triplets)
+    ∙ part-printed Section.B s t (c .rows .buses) _ (w Section.B .ordered) (end-inside s Section.B (w Section.B) (a .least)) (b .buses)
+    (part-printed Section.R s t (c .rows .slacks) _ (w Section.R .ordered) (end-inside s Section.R (w Section.R) (a .least)) (b .slacks)
+    (part-printed Section.G s t (c .rows .generators) _ (w Section.G .ordered) (end-inside s Section.G (w Section.G) (a .least)) (b .generators)
+    (part-printed Section.L s t (c .rows .branches) _ (w Section.L .ordered) (end-inside s Section.L (w Section.L) (a .least)) (b .branches)
+    (part-printed Section.Y s t (c .rows .triplets) _ (w Section.Y .ordered) (end-inside s Section.Y (w Section.Y) (a .least)) (b .triplets)
     (ap (λ (n : ℕ). drop n s) (u .last) ∙ trailer-printed s t (omega (arith, a .least)) g)))))
 
 -- every field of every row is what is asked of it

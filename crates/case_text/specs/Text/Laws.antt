@@ -17,20 +17,20 @@ use Rattle.case_text.specs.Alphabet.{knownOf}
 use Rattle.trailer.specs.Trailer.{modeOf, trailerOf}
 use Rattle.case_text.specs.Text.{partOf, thenSection, afterY, afterL, afterG, afterR, afterB, bodyOf, afterTrailer, afterLength, textOf}
 use Rattle.case_text.specs.Answer.{paperOf}
-use Rattle.case_text.specs.declared.Tables.{Tables}
+use Rattle.case_text.specs.declared.Contents.{Contents}
 use Rattle.case_text.specs.declared.Reading.{Reading}
 use Rattle.case_text.specs.declared.Reading.the-variants as Reading
 
 -- each section of the body is good, and its rows are counted
-pub record Body (s : List ℕ) (t : ℕ) (c : Tables) : Type 0 where
+pub record Body (s : List ℕ) (t : ℕ) (c : Contents) : Type 0 where
   pub start : c .start ≡ modeOf (getD s t 0)
-  pub buses : partOf Section.B s t ≡ Check.Good (c .buses)
-  pub slacks : partOf Section.R s t ≡ Check.Good (c .slacks)
-  pub generators : partOf Section.G s t ≡ Check.Good (c .generators)
-  pub branches : partOf Section.L s t ≡ Check.Good (c .branches)
-  pub triplets : partOf Section.Y s t ≡ Check.Good (c .triplets)
+  pub buses : partOf Section.B s t ≡ Check.Good (c .rows .buses)
+  pub slacks : partOf Section.R s t ≡ Check.Good (c .rows .slacks)
+  pub generators : partOf Section.G s t ≡ Check.Good (c .rows .generators)
+  pub branches : partOf Section.L s t ≡ Check.Good (c .rows .branches)
+  pub triplets : partOf Section.Y s t ≡ Check.Good (c .rows .triplets)
 
-pub record Accepted (s : List ℕ) (t : ℕ) (c : Tables) : Type 0 where
+pub record Accepted (s : List ℕ) (t : ℕ) (c : Contents) : Type 0 where
   pub least : 38 ≤ length s
   pub most : length s ≤ 32768
   pub trailer : trailerOf s t ≡ true
@@ -38,15 +38,15 @@ pub record Accepted (s : List ℕ) (t : ℕ) (c : Tables) : Type 0 where
   pub body : Body s t c
 
 -- P of the tables, where there are any; a refusal is not 9
-abbrev pub Where : (Tables → Type 0) → Paper Tables → Type 0
+abbrev pub Where : (Contents → Type 0) → Paper Contents → Type 0
 Where P (given c) = P c
 Where P (refused number values) = eqb number 9 ≡ false
 
-on : (P Q : Tables → Type 0) (p : Paper Tables) → ((c : Tables) → P c → Q c) → Where P p → Where Q p
+on : (P Q : Contents → Type 0) (p : Paper Contents) → ((c : Contents) → P c → Q c) → Where P p → Where Q p
 on P Q (given c) f h = f c h
 on P Q (refused number values) f h = h
 
-sections : (P : Tables → Type 0) (v : Check) (k : ℕ → Reading) → ((n : ℕ) → v ≡ Check.Good n → Where P (paperOf (k n))) → Where P (paperOf (thenSection v k))
+sections : (P : Contents → Type 0) (v : Check) (k : ℕ → Reading) → ((n : ℕ) → v ≡ Check.Good n → Where P (paperOf (k n))) → Where P (paperOf (thenSection v k))
 sections P (Check.Good n) k h = h n refl
 sections P (Check.Rows n) k h = refl
 sections P (Check.Form n) k h = refl
@@ -80,9 +80,9 @@ module _ (s : List ℕ) where
   pub text-sound : Where (Accepted s (length s - 38)) (paperOf (textOf s))
   text-sound = ⊎-elim (λ q. rw q) (λ q. rw q (most-sound (ltb-false (length s) 38 q))) (decided (ltb (length s) 38))
 
-  pub accepted-has : (c : Tables) → textOf s ≡ Reading.Good c → Accepted s (length s - 38) c
+  pub accepted-has : (c : Contents) → textOf s ≡ Reading.Good c → Accepted s (length s - 38) c
   accepted-has c h = rw h at text-sound
 
   -- refusal 9 is none of the text's
-  pub never-short : textOf s ≡ Reading.Short → ⊥
-  never-short h = true≢false (rw h at text-sound)
+  pub never-room : textOf s ≡ Reading.Room → ⊥
+  never-room h = true≢false (rw h at text-sound)
