@@ -9,21 +9,18 @@ use lib.Ieee.{Float, nan}
 use Rattle.real.specs.Literals.{nought}
 use Rattle.complex.specs.declared.Complex.{Complex}
 use Rattle.complex.specs.Numbers.{complex, sumOf, conjugateOf, productOf, polarOf}
+use Rattle.network.specs.Network.{Triplets, tripletsOf}
 use Rattle.layout.specs.Table.{table, Below}
 use Rattle.injections.specs.declared.Column.{Column}
 use Rattle.injections.specs.declared.Phasors.{Phasors}
 use Rattle.injections.specs.declared.Injected.{Injected}
 use Rattle.injections.specs.declared.Injections.{Injections}
 
--- the triplets (row, col, re + i im) of the admittance matrix, given as four columns
-pub record Ybus : Type 0 where
-  pub row : List ℕ
-  pub col : List ℕ
-  pub re : List Float
-  pub im : List Float
+abbrev pub Ybus : Type 0
+Ybus = Triplets
 
 abbrev pub ybus : List ℕ → List ℕ → List Float → List Float → Ybus
-ybus row col re im = record { row = row; col = col; re = re; im = im }
+ybus row col re im = tripletsOf row col re im
 
 -- what the checks of the solve leave: at most 32 buses, columns of one length, bus numbers below the bus count
 pub record Good (n : ℕ) (y : Ybus) : Type 0 where

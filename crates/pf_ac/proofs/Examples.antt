@@ -1,25 +1,42 @@
 -- Demand 3's assumption can be met: three buses S, V, Q with x in every place that 01 withholds under the flat start. Assumes nothing.
 use Prim.Native.Nat.{ℕ, zero, suc, _<_}
-use mathlib.Core.Bool.{true≢false}
+use mathlib.Core.Bool.{true, true≢false}
 use mathlib.Core.List.{[], _∷_}
 use mathlib.Core.Logic.{inl, inr}
 use mathlib.Core.Path.{_≡_, refl, sym, ap}
 use native.Mathlib.Omega.{arith}
 use lib.ListN.{getD}
 use lib.Ieee.{Float, nan, ofBits, lt}
+use Rattle.real.specs.Tests.{both}
 use Rattle.real.specs.Any.{anyBelow}
 use Rattle.real.specs.Literals.{nought, one}
-use Rattle.layout.specs.Table.{Below}
+use Rattle.network.specs.Network.{Network, busesOf, slacksOf, generatorsOf, branchesOf, tripletsOf, networkOf}
+use Rattle.network.specs.Below.{allBelow}
+use Rattle.network.specs.Checks.{counted, numbered, WellIndexed}
+use Rattle.network.specs.Checks.Laws.{well-indexed}
 use Rattle.starts.specs.declared.AcStart.the-variants.{Flat}
-use Rattle.pf_ac.specs.Network.{Network, network, Ready}
-use Rattle.pf_ac.specs.Network.Withheld.{Alike}
+use Rattle.pf_ac.specs.WithStart.Withheld.{Alike}
 
 -- all four powers at the slack bus, qg at the V bus, the limits of the generators at the slack and the Q bus, and every stored voltage
 abbrev pub sample : Float → Network
 sample x =
-    network (81 ∷ 86 ∷ 81 ∷ []) (one ∷ one ∷ one ∷ []) (x ∷ one ∷ one ∷ []) (x ∷ one ∷ one ∷ []) (x ∷ one ∷ one ∷ []) (x ∷ x ∷ one ∷ []) (x ∷ x ∷ x ∷ []) (x ∷ x ∷ x ∷ [])
-    (0 ∷ []) (nought ∷ []) (0 ∷ 1 ∷ 2 ∷ []) (x ∷ nought ∷ x ∷ []) (x ∷ one ∷ x ∷ []) (0 ∷ 1 ∷ 0 ∷ []) (1 ∷ 2 ∷ 2 ∷ []) (0 ∷ 1 ∷ 2 ∷ []) (0 ∷ 1 ∷ 2 ∷ []) (one ∷ one ∷ one ∷ []) (one ∷ one ∷ one ∷ [])
-    Flat
+    networkOf
+    (busesOf (81 ∷ 86 ∷ 81 ∷ []) (one ∷ one ∷ one ∷ []) (x ∷ one ∷ one ∷ []) (x ∷ one ∷ one ∷ []) (x ∷ one ∷ one ∷ []) (x ∷ x ∷ one ∷ []) (x ∷ x ∷ x ∷ []) (x ∷ x ∷ x ∷ []))
+    (slacksOf (0 ∷ []) (nought ∷ []))
+    (generatorsOf (0 ∷ 1 ∷ 2 ∷ []) (x ∷ nought ∷ x ∷ []) (x ∷ one ∷ x ∷ []))
+    (branchesOf (0 ∷ 1 ∷ 0 ∷ []) (1 ∷ 2 ∷ 2 ∷ []))
+    (tripletsOf (0 ∷ 1 ∷ 2 ∷ []) (0 ∷ 1 ∷ 2 ∷ []) (one ∷ one ∷ one ∷ []) (one ∷ one ∷ one ∷ []))
+
+sample-counted : (x : Float) → counted (sample x) ≡ true
+unfolding counted both
+sample-counted x = refl
+
+sample-numbered : (x : Float) → numbered (sample x) ≡ true
+unfolding numbered allBelow both
+sample-numbered x = refl
+
+pub sample-well-indexed : (x : Float) → WellIndexed (sample x)
+sample-well-indexed x = well-indexed (sample x) (sample-counted x) (sample-numbered x)
 
 -- what holds at 0, 1 and 2 holds below 3
 below-3 : (P : ℕ → Type 0) → P 0 → P 1 → P 2 → (b : ℕ) → b < 3 → P b
@@ -28,64 +45,31 @@ below-3 P p q r (suc zero) h = q
 below-3 P p q r (suc (suc zero)) h = r
 below-3 P p q r (suc (suc (suc b))) h = absurd (omega arith)
 
-pub sample-ready : (x : Float) → Ready (sample x)
-sample-ready x =
-    record {
-      few = omega arith;
-      set-size = refl;
-      pd-size = refl;
-      qd-size = refl;
-      pg-size = refl;
-      qg-size = refl;
-      vm-size = refl;
-      va-size = refl;
-      slack-size = refl;
-      min-size = refl;
-      max-size = refl;
-      slacks-below = λ i h. let e : i ≡ 0 = omega arith in rw e (omega arith);
-      gens-below = numbers;
-      ends = record { paired = refl; below = below-3 _ (omega arith, omega arith) (omega arith, omega arith) (omega arith, omega arith) };
-      triplets = record { few = omega arith; cols = refl; res = refl; ims = refl; rows-below = numbers; cols-below = numbers };
-    }
-  where
-    numbers : Below 3 (0 ∷ 1 ∷ 2 ∷ [])
-    numbers = below-3 (λ i. getD (0 ∷ 1 ∷ 2 ∷ []) i 0 < 3) (omega arith) (omega arith) (omega arith)
-
-pub sample-alike : (x y : Float) → Alike (sample x) (sample y)
+pub sample-alike : (x y : Float) → Alike Flat (sample x) (sample y)
 unfolding anyBelow
 sample-alike x y =
     record {
-      kind = refl;
-      vm-set = refl;
+      buses = record {
+        kind = refl;
+        vm-set = refl;
+        pd = record { size = refl; same = below-3 _ (inl refl) (inr refl) (inr refl) };
+        qd = record { size = refl; same = below-3 _ (inl refl) (inr refl) (inr refl) };
+        pg = record { size = refl; same = below-3 _ (inl refl) (inr refl) (inr refl) };
+        qg = record { size = refl; same = below-3 _ (inl (inl refl)) (inl (inr refl)) (inr refl) };
+        vm-case = record { size = refl; same = inl refl };
+        va-case = record { size = refl; same = inl refl };
+      };
       slacks = refl;
-      va-slacks = refl;
-      gen-bus = refl;
-      br-from = refl;
-      br-to = refl;
-      y-row = refl;
-      y-col = refl;
-      y-re = refl;
-      y-im = refl;
-      start = refl;
-      pd-length = refl;
-      qd-length = refl;
-      pg-length = refl;
-      qg-length = refl;
-      qmin-length = refl;
-      qmax-length = refl;
-      vm-case-length = refl;
-      va-case-length = refl;
-      pd = below-3 _ (inl refl) (inr refl) (inr refl);
-      qd = below-3 _ (inl refl) (inr refl) (inr refl);
-      pg = below-3 _ (inl refl) (inr refl) (inr refl);
-      qg = below-3 _ (inl (inl refl)) (inl (inr refl)) (inr refl);
-      qmin = below-3 _ (inl (inl refl)) (inr refl) (inl (inr refl));
-      qmax = below-3 _ (inl (inl refl)) (inr refl) (inl (inr refl));
-      vm-case = inl refl;
-      va-case = inl refl;
+      generators = record {
+        bus = refl;
+        qmin = record { size = refl; same = below-3 _ (inl (inl refl)) (inr refl) (inl (inr refl)) };
+        qmax = record { size = refl; same = below-3 _ (inl (inl refl)) (inr refl) (inl (inr refl)) };
+      };
+      branches = refl;
+      triplets = refl;
     }
 
 -- and they do differ
 pub samples-differ : sample nought ≡ sample one → ⊥
 unfolding ofBits lt
-samples-differ e = true≢false (sym (ap (λ (t : Network). lt nought (getD (t .pd) 0 nan)) e))
+samples-differ e = true≢false (sym (ap (λ (t : Network). lt nought (getD (t .buses .pd) 0 nan)) e))

@@ -18,7 +18,9 @@ ghost use Rattle.qlim.specs.Rounds.{study};
 ghost use Rattle.qlim.specs.Rounds as Rounds;
 ghost use Rattle.starts.specs.References.{Slacks};
 ghost use Rattle.pf_ac.specs.Search.{betterOf, firstOf, startOf, countOf, searched, judgedOf, searchOf};
-ghost use Rattle.pf_ac.specs.Network.{Network, network, Ready, acPfOf};
+ghost use Rattle.network.specs.Network.{Network, busesOf, slacksOf, generatorsOf, branchesOf, tripletsOf, networkOf};
+ghost use Rattle.network.specs.Checks.{WellIndexed};
+ghost use Rattle.pf_ac.specs.WithStart.{acPfOf};
 
 // Solved with its residual, or not converged with the best mismatch.
 pub enum AcPf {
@@ -217,8 +219,14 @@ pub fn ac_pf_with_start(
     w: &mut [f64],
 ) -> Kept
     ghost { Network }
-    requires { λ t. ⌜ network (now kind) (now «vm_set») (now pd) (now qd) (now pg) (now qg) (now «vm_case») (now «va_case») (now slacks) (now «va_slacks») (now «gen_bus») (now qmin) (now qmax) (now «br_from») (now «br_to») (now «y_row») (now «y_col») (now «y_re») (now «y_im») start ≡ t ⌝ ∗ ⌜ Ready t × (4160 ≤ length (now w)) ⌝ }
-    ensures { λ t r. ⌜ searched (r .found) (r .best) (now (w .exit)) ≡ acPfOf t (now (w .entry)) ⌝ }
+    requires { λ t. ⌜ networkOf
+        (busesOf (now kind) (now «vm_set») (now pd) (now qd) (now pg) (now qg) (now «vm_case») (now «va_case»))
+        (slacksOf (now slacks) (now «va_slacks»))
+        (generatorsOf (now «gen_bus») (now qmin) (now qmax))
+        (branchesOf (now «br_from») (now «br_to»))
+        (tripletsOf (now «y_row») (now «y_col») (now «y_re») (now «y_im»)) ≡ t ⌝ }
+    requires { λ t. ⌜ WellIndexed t × (4160 ≤ length (now w)) ⌝ }
+    ensures { λ t r. ⌜ searched (r .found) (r .best) (now (w .exit)) ≡ acPfOf start t (now (w .entry)) ⌝ }
 {
     let n = kind.len();
     let kinds = layout::default_kinds(n, kind, slacks);

@@ -11,6 +11,7 @@ use lib.ListN.{length, getD, replicate, length-replicate}
 use lib.Seq.{ext-getD}
 use lib.Ieee.{Float, nan}
 use Rattle.real.specs.Literals.{nought}
+use Rattle.network.specs.Network.{Network, busesOf, networkOf, busCount}
 use Rattle.layout.specs.declared.BusKind.{BusKind}
 use Rattle.layout.specs.declared.BusKind.the-variants.{Slack, Pv}
 use Rattle.layout.specs.declared.Point.{Point}
@@ -26,9 +27,9 @@ use Rattle.qlim.specs.Rounds.{Study, nothing, qlimOf}
 use Rattle.qlim.specs.Rounds.Unread.{start-unread}
 use Rattle.starts.specs.declared.AcStart.{AcStart}
 use Rattle.starts.specs.declared.AcStart.the-variants.{Flat, Case}
-use Rattle.pf_ac.specs.Search.{startOf, betterOf, tryOf, searchFrom, firstOf, searchOf}
-use Rattle.pf_ac.specs.Network.{Network, network, buses, kindsFor, studyFor, referencesFor, flatFor, firstFor, acPfOf}
-use Rattle.pf_ac.specs.Network.Withheld.{kindFor, SameAt}
+use Rattle.pf_ac.specs.Search.{startOf, betterOf, tryOf, searchFrom, searchOf}
+use Rattle.pf_ac.specs.WithStart.{kindsFor, studyFor, flatFor, firstFor, acPfOf}
+use Rattle.pf_ac.specs.WithStart.Withheld.{kindFor, SameAt}
 
 -- ---- points alike once they are pinned
 
@@ -93,27 +94,29 @@ search-pinned Case s kinds p q flat rounds w = first Case s kinds p q flat round
 -- t with other stored magnitudes
 abbrev pub stored : Network → List Float → Network
 stored t vm =
-    network (t .kind) (t .vm-set) (t .pd) (t .qd) (t .pg) (t .qg) vm (t .va-case) (t .slacks) (t .va-slacks) (t .gen-bus) (t .qmin) (t .qmax) (t .br-from) (t .br-to) (t .y-row) (t .y-col) (t .y-re) (t .y-im) (t .start)
+    let b = t .buses in
+    networkOf (busesOf (b .kind) (b .vm-set) (b .pd) (b .qd) (b .pg) (b .qg) vm (b .va-case)) (t .slacks) (t .generators) (t .branches) (t .triplets)
 
-module _ (t : Network) (few : buses t ≤ 32) (vm : List Float) (same : (b : ℕ) → b < buses t → ((kindFor t b ≡ Slack) ⊎ (kindFor t b ≡ Pv)) ⊎ SameAt (t .vm-case) vm b) where
-  abbrev firstAt : AcStart → List Float → Point
-  firstAt start l = firstOf start (buses t) (t .vm-set) l (t .va-case) (referencesFor t) (flatFor t)
+module _ (t : Network) (few : busCount t ≤ 32) (vm : List Float)
+    (same : (b : ℕ) → b < busCount t → ((kindFor t b ≡ Slack) ⊎ (kindFor t b ≡ Pv)) ⊎ SameAt (t .buses .vm-case) vm b) where
+  abbrev set : List Float
+  set = t .buses .vm-set
 
-  figure : (b : ℕ) → b < buses t → NoReactive (kindOf (kindsFor t) b) ⊎ (caseVm (t .vm-set) (t .vm-case) b ≡ caseVm (t .vm-set) vm b)
-  figure b h = rw (kinds-at (buses t) (t .kind) (t .slacks) b Slack h few) (go (same b h))
+  figure : (b : ℕ) → b < busCount t → NoReactive (kindOf (kindsFor t) b) ⊎ (caseVm set (t .buses .vm-case) b ≡ caseVm set vm b)
+  figure b h = rw (kinds-at (busCount t) (t .buses .kind) (t .slacks .bus) b Slack h few) (go (same b h))
     where
-      go : ((kindFor t b ≡ Slack) ⊎ (kindFor t b ≡ Pv)) ⊎ SameAt (t .vm-case) vm b
-          → NoReactive (kindFor t b) ⊎ (caseVm (t .vm-set) (t .vm-case) b ≡ caseVm (t .vm-set) vm b)
+      go : ((kindFor t b ≡ Slack) ⊎ (kindFor t b ≡ Pv)) ⊎ SameAt (t .buses .vm-case) vm b
+          → NoReactive (kindFor t b) ⊎ (caseVm set (t .buses .vm-case) b ≡ caseVm set vm b)
       go (inl e) = inl e
       go (inr e) = inr (rw e)
 
   start-pinned : (start : AcStart)
-      → pinned (buses t) (kindsFor t) (studyFor t .hold) (firstAt start (t .vm-case)) ≡ pinned (buses t) (kindsFor t) (studyFor t .hold) (firstAt start vm)
+      → pinned (busCount t) (kindsFor t) (studyFor t .hold) (firstFor start t) ≡ pinned (busCount t) (kindsFor t) (studyFor t .hold) (firstFor start (stored t vm))
   unfolding caseOf
   start-pinned Flat = refl
-  start-pinned Case = pin-alike (buses t) few (kindsFor t) (studyFor t .hold) _ (caseVm (t .vm-set) (t .vm-case)) (caseVm (t .vm-set) vm) figure
+  start-pinned Case = pin-alike (busCount t) few (kindsFor t) (studyFor t .hold) _ (caseVm set (t .buses .vm-case)) (caseVm set vm) figure
 
-  pub pinned-unread : (w : List Float) → acPfOf t w ≡ acPfOf (stored t vm) w
+  pub pinned-unread : (start : AcStart) (w : List Float) → acPfOf start t w ≡ acPfOf start (stored t vm) w
   unfolding acPfOf
-  pinned-unread =
-      search-pinned (t .start) (studyFor t) (kindsFor t) (firstFor t) (firstFor (stored t vm)) (flatFor t) (start-unread (kindsFor t) (studyFor t) (firstFor t) (firstFor (stored t vm)) (start-pinned (t .start)))
+  pinned-unread start =
+      search-pinned start (studyFor t) (kindsFor t) (firstFor start t) (firstFor start (stored t vm)) (flatFor t) (start-unread (kindsFor t) (studyFor t) (firstFor start t) (firstFor start (stored t vm)) (start-pinned start))
