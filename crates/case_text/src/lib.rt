@@ -186,17 +186,17 @@ pub fn read_case(
 ) -> Reading
     ensures { λ r.
         let old = networkOf
-            (busesOf (now (kind .entry)) (now («vm_set» .entry)) (now (pd .entry)) (now (qd .entry)) (now (pg .entry)) (now (qg .entry)) (now («vm_case» .entry)) (now («va_case» .entry)))
-            (slacksOf (now (slacks .entry)) (now («va_slacks» .entry)))
-            (generatorsOf (now («gen_bus» .entry)) (now (qmin .entry)) (now (qmax .entry)))
-            (branchesOf (now («br_from» .entry)) (now («br_to» .entry)))
-            (tripletsOf (now («y_row» .entry)) (now («y_col» .entry)) (now («y_re» .entry)) (now («y_im» .entry))) in
+        (busesOf (now (kind .entry)) (now («vm_set» .entry)) (now (pd .entry)) (now (qd .entry)) (now (pg .entry)) (now (qg .entry)) (now («vm_case» .entry)) (now («va_case» .entry)))
+        (slacksOf (now (slacks .entry)) (now («va_slacks» .entry)))
+        (generatorsOf (now («gen_bus» .entry)) (now (qmin .entry)) (now (qmax .entry)))
+        (branchesOf (now («br_from» .entry)) (now («br_to» .entry)))
+        (tripletsOf (now («y_row» .entry)) (now («y_col» .entry)) (now («y_re» .entry)) (now («y_im» .entry))) in
         let new = networkOf
-            (busesOf (now (kind .exit)) (now («vm_set» .exit)) (now (pd .exit)) (now (qd .exit)) (now (pg .exit)) (now (qg .exit)) (now («vm_case» .exit)) (now («va_case» .exit)))
-            (slacksOf (now (slacks .exit)) (now («va_slacks» .exit)))
-            (generatorsOf (now («gen_bus» .exit)) (now (qmin .exit)) (now (qmax .exit)))
-            (branchesOf (now («br_from» .exit)) (now («br_to» .exit)))
-            (tripletsOf (now («y_row» .exit)) (now («y_col» .exit)) (now («y_re» .exit)) (now («y_im» .exit))) in
+        (busesOf (now (kind .exit)) (now («vm_set» .exit)) (now (pd .exit)) (now (qd .exit)) (now (pg .exit)) (now (qg .exit)) (now («vm_case» .exit)) (now («va_case» .exit)))
+        (slacksOf (now (slacks .exit)) (now («va_slacks» .exit)))
+        (generatorsOf (now («gen_bus» .exit)) (now (qmin .exit)) (now (qmax .exit)))
+        (branchesOf (now («br_from» .exit)) (now («br_to» .exit)))
+        (tripletsOf (now («y_row» .exit)) (now («y_col» .exit)) (now («y_re» .exit)) (now («y_im» .exit))) in
         ⌜ outcome (paperOf r) new ≡ readOf (now (text .entry)) old ⌝ }
 {
     let room = Rows {

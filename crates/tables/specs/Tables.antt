@@ -4,20 +4,25 @@ pub mod Withheld
 use Prim.Native.Nat.{ℕ, _≤_}
 use mathlib.Core.Bool.{Bool, cond}
 use mathlib.Core.List.{List, [], _∷_}
-use lib.Dec.{leb, eqb}
+use lib.Dec.{leb}
 use lib.ListN.{length, getD, replicate}
 use lib.Ieee.{Float, nan}
 use Rattle.real.specs.Tests.{both}
 use Rattle.real.specs.Paper.{Paper, given, refused, whole, real}
 use Rattle.real.specs.Literals.{nought}
-use Rattle.layout.specs.Table.{stores, allBelow}
-use Rattle.injections.specs.Injections.{Ybus, injectionsOf}
+use Rattle.network.specs.Network.{Triplets, Network, busCount}
+use Rattle.network.specs.Checks.{counted, numbered}
+use Rattle.layout.specs.declared.Point.{Point}
+use Rattle.layout.specs.Table.{stores}
+use Rattle.injections.specs.Injections.{injectionsOf}
+use Rattle.moves.specs.declared.KindAt.{KindAt}
 use Rattle.moves.specs.Moves.{lettersOf}
 use Rattle.qlim.specs.declared.Settled.{Settled}
+use Rattle.starts.specs.declared.AcStart.{AcStart}
 use Rattle.pf_ac.specs.declared.AcPf.{AcPf}
 use Rattle.pf_ac.specs.declared.AcPf.the-variants as AcPf
 use Rattle.pf_ac.specs.Search.{Searched, searched}
-use Rattle.pf_ac.specs.Network.{Network, buses, tripletsOf, acPfOf}
+use Rattle.pf_ac.specs.WithStart.{acPfOf}
 use Rattle.tables.specs.declared.Checked.{Checked}
 use Rattle.tables.specs.declared.Checked.the-variants as Checked
 use Rattle.tables.specs.declared.Outcome.{Outcome}
@@ -50,76 +55,40 @@ outs vm va p q kinds = record { vm = vm; va = va; p = p; q = q; kinds = kinds }
 
 -- ---- the checks
 
-abbrev pub same3 : ℕ → ℕ → ℕ → ℕ → Bool
-same3 n a b c = both (eqb a n) (both (eqb b n) (eqb c n))
-
-abbrev pub same7 : ℕ → ℕ → ℕ → ℕ → ℕ → ℕ → ℕ → ℕ → Bool
-same7 n a b c d e f g = both (same3 n a b c) (both (eqb d n) (same3 n e f g))
-
--- no "count over its size", no "input columns of one table differ in length": of the nineteen lengths
-abbrev pub countedBy : ℕ → ℕ → ℕ → ℕ → ℕ → ℕ → ℕ → ℕ → ℕ → ℕ → ℕ → ℕ → ℕ → ℕ → ℕ → ℕ → ℕ → ℕ → ℕ → Bool
-countedBy kind vm-set pd qd pg qg vm-case va-case slacks va-slacks gen-bus qmin qmax br-from br-to y-row y-col y-re y-im =
-    both (both (leb kind 32) (same7 kind vm-set pd qd pg qg vm-case va-case))
-    (both (both (leb slacks 32) (eqb va-slacks slacks))
-    (both (both (leb gen-bus 32) (both (eqb qmin gen-bus) (eqb qmax gen-bus)))
-    (both (both (leb br-from 64) (eqb br-to br-from)) (both (leb y-row 256) (same3 y-row y-col y-re y-im)))))
-
-unfoldable pub counted : Network → Bool
-counted t =
-    countedBy (length (t .kind)) (length (t .vm-set)) (length (t .pd)) (length (t .qd)) (length (t .pg)) (length (t .qg)) (length (t .vm-case)) (length (t .va-case))
-    (length (t .slacks)) (length (t .va-slacks)) (length (t .gen-bus)) (length (t .qmin)) (length (t .qmax)) (length (t .br-from)) (length (t .br-to))
-    (length (t .y-row)) (length (t .y-col)) (length (t .y-re)) (length (t .y-im))
-
--- no "answer columns or workspace too short"
-abbrev pub roomyBy : ℕ → ℕ → ℕ → ℕ → ℕ → ℕ → ℕ → Bool
-roomyBy n vm va p q kinds w = both (leb n vm) (both (leb n va) (both (leb n p) (both (leb n q) (both (leb n kinds) (leb 6144 w)))))
-
--- the places of the answer columns and of the workspace
-pub record Space : Type 0 where
+-- how many places each answer column has
+pub record Places : Type 0 where
   pub vm : ℕ
   pub va : ℕ
   pub p : ℕ
   pub q : ℕ
   pub kinds : ℕ
-  pub space : ℕ
 
-abbrev pub places : ℕ → ℕ → ℕ → ℕ → ℕ → ℕ → Space
-places vm va p q kinds w = record { vm = vm; va = va; p = p; q = q; kinds = kinds; space = w }
+abbrev pub placesOf : ℕ → ℕ → ℕ → ℕ → ℕ → Places
+placesOf vm va p q kinds = record { vm = vm; va = va; p = p; q = q; kinds = kinds }
 
-abbrev pub placesIn : Outs → List Float → Space
-placesIn o w = places (length (o .vm)) (length (o .va)) (length (o .p)) (length (o .q)) (length (o .kinds)) (length w)
+abbrev pub placesIn : Outs → Places
+placesIn o = placesOf (length (o .vm)) (length (o .va)) (length (o .p)) (length (o .q)) (length (o .kinds))
 
-unfoldable pub roomy : Network → Space → Bool
-roomy t m = roomyBy (buses t) (m .vm) (m .va) (m .p) (m .q) (m .kinds) (m .space)
+-- "at least one place per bus"
+pub record OnePerBus (n : ℕ) (m : Places) : Type 0 where
+  pub vm : n ≤ m .vm
+  pub va : n ≤ m .va
+  pub p : n ≤ m .p
+  pub q : n ≤ m .q
+  pub kinds : n ≤ m .kinds
 
--- a place for each of n buses in each answer column
-pub record Places (n : ℕ) (o : Outs) : Type 0 where
-  pub vm : n ≤ length (o .vm)
-  pub va : n ≤ length (o .va)
-  pub p : n ≤ length (o .p)
-  pub q : n ≤ length (o .q)
-  pub kinds : n ≤ length (o .kinds)
-
--- no "bus number not below the bus count"
-abbrev pub numberedBy : ℕ → List ℕ → List ℕ → List ℕ → List ℕ → List ℕ → List ℕ → Bool
-numberedBy n slacks gen-bus br-from br-to y-row y-col =
-    both (allBelow (length slacks) n slacks)
-    (both (allBelow (length gen-bus) n gen-bus)
-    (both (allBelow (length br-from) n br-from)
-    (both (allBelow (length br-to) n br-to)
-    (both (allBelow (length y-row) n y-row) (allBelow (length y-col) n y-col)))))
-
-unfoldable pub numbered : Network → Bool
-numbered t = numberedBy (buses t) (t .slacks) (t .gen-bus) (t .br-from) (t .br-to) (t .y-row) (t .y-col)
+-- no "answer columns or workspace too short"
+unfoldable pub roomy : ℕ → Places → ℕ → Bool
+roomy n m space = both (leb n (m .vm)) (both (leb n (m .va)) (both (leb n (m .p)) (both (leb n (m .q)) (both (leb n (m .kinds)) (leb 6144 space)))))
 
 -- ---- what is written
 
 -- one place per bus in each column, and none past them: the voltages, the powers that they carry, the kinds' letters
-unfoldable pub writtenOf : ℕ → Ybus → Settled → Outs → Outs
-writtenOf n y best o =
-    let power = injectionsOf n y (best .ended .point .vm) (best .ended .point .va) .power in
-    outs (stores (λ b. getD (best .ended .point .vm) b nan) n (o .vm)) (stores (λ b. getD (best .ended .point .va) b nan) n (o .va))
-    (stores (λ b. getD (power .p) b nan) n (o .p)) (stores (λ b. getD (power .q) b nan) n (o .q)) (stores (λ b. getD (lettersOf n (best .kinds)) b 0) n (o .kinds))
+unfoldable pub withAnswer : ℕ → Triplets → Point → List KindAt → Outs → Outs
+withAnswer n y point kinds o =
+    let power = injectionsOf n y (point .vm) (point .va) .power in
+    outs (stores (λ b. getD (point .vm) b nan) n (o .vm)) (stores (λ b. getD (point .va) b nan) n (o .va))
+    (stores (λ b. getD (power .p) b nan) n (o .p)) (stores (λ b. getD (power .q) b nan) n (o .q)) (stores (λ b. getD (lettersOf n kinds) b 0) n (o .kinds))
 
 -- "the whole workspace is zeros"
 unfoldable pub zeros : List Float → List Float
@@ -128,8 +97,9 @@ zeros w = replicate (length w) nought
 -- ---- the three parts
 
 -- 7, 9 and 8, in the table's order
-unfoldable pub checkedOf : Network → Space → Checked
-checkedOf t m = cond (counted t) (cond (roomy t m) (cond (numbered t) Checked.Ready Checked.Bus) Checked.Room) Checked.Counts
+unfoldable pub checkedOf : Network → Places → ℕ → Checked
+checkedOf t m space =
+    cond (counted t) (cond (roomy (busCount t) m space) (cond (numbered t) Checked.Ready Checked.Bus) Checked.Room) Checked.Counts
 
 -- the result kept, with the workspace cleared
 pub data Ran : Type 0 where
@@ -138,16 +108,16 @@ pub data Ran : Type 0 where
 abbrev pub ranOf : Searched → List Float → Ran
 ranOf (searched found best v) w = ran found best (zeros w)
 
-unfoldable pub runOf : Network → List Float → Ran
-runOf t w = ranOf (acPfOf t w) w
+unfoldable pub runOf : AcStart → Network → List Float → Ran
+runOf start t w = ranOf (acPfOf start t w) w
 
 -- the answer and the columns: written if it is solved, else untouched
 pub data Written : Type 0 where
   written : Paper (ℕ × Float) → Outs → Written
 
-abbrev pub writeOf : ℕ → Ybus → AcPf → Settled → Outs → Written
-writeOf n y (AcPf.Solved iterations residual) best o = written (ok iterations residual) (writtenOf n y best o)
-writeOf n y (AcPf.NotConverged mismatch starts) best o = written (refused 10 (real mismatch ∷ whole starts ∷ [])) o
+abbrev pub writeOf : ℕ → Triplets → AcPf → Point → List KindAt → Outs → Written
+writeOf n y (AcPf.Solved iterations residual) point kinds o = written (ok iterations residual) (withAnswer n y point kinds o)
+writeOf n y (AcPf.NotConverged mismatch starts) point kinds o = written (refused 10 (real mismatch ∷ whole starts ∷ [])) o
 
 -- ---- the call
 
@@ -163,14 +133,14 @@ abbrev pub withSpace : Written → List Float → Answer
 withSpace (written r o) w = answer r o w
 
 abbrev pub afterRun : Network → Outs → Ran → Answer
-afterRun t o (ran found best w) = withSpace (writeOf (buses t) (tripletsOf t) found best o) w
+afterRun t o (ran found best w) = withSpace (writeOf (busCount t) (t .triplets) found (best .ended .point) (best .kinds) o) w
 
 -- 7, 8 and 9 leave all lent memory untouched, 10 the answer columns
-abbrev pub afterCheck : Network → Outs → List Float → Checked → Answer
-afterCheck t o w Checked.Ready = afterRun t o (runOf t w)
-afterCheck t o w Checked.Counts = answer (refused 7 []) o w
-afterCheck t o w Checked.Room = answer (refused 9 []) o w
-afterCheck t o w Checked.Bus = answer (refused 8 []) o w
+abbrev pub afterCheck : AcStart → Network → Outs → List Float → Checked → Answer
+afterCheck start t o w Checked.Ready = afterRun t o (runOf start t w)
+afterCheck start t o w Checked.Counts = answer (refused 7 []) o w
+afterCheck start t o w Checked.Room = answer (refused 9 []) o w
+afterCheck start t o w Checked.Bus = answer (refused 8 []) o w
 
-unfoldable pub solveOf : Network → Outs → List Float → Answer
-solveOf t o w = afterCheck t o w (checkedOf t (placesIn o w))
+unfoldable pub solveOf : AcStart → Network → Outs → List Float → Answer
+solveOf start t o w = afterCheck start t o w (checkedOf t (placesIn o) (length w))

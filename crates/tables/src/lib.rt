@@ -1,7 +1,8 @@
 // The solve over tables: the public call. Counts, lengths and bus numbers are checked, in that order, before anything is written.
+use layout::Point;
+use moves::KindAt;
 use pf_ac::AcPf;
 use pf_ac::Kept;
-use qlim::Settled;
 use starts::AcStart;
 ghost use mathlib.Core.Path.{_≡_};
 ghost use Prim.Native.Nat.{_≤_};
@@ -9,9 +10,11 @@ ghost use lib.ListN.{length, getD};
 ghost use mathlib.Core.List.{List};
 ghost use lib.Ieee.{Float, nan};
 ghost use Rattle.layout.specs.Table.{stores};
-ghost use Rattle.injections.specs.Injections.{Ybus, ybus, Good};
-ghost use Rattle.pf_ac.specs.Network.{Network, network, Ready};
-ghost use Rattle.tables.specs.Tables.{same3, same7, countedBy, roomyBy, numberedBy, Outs, outs, Places, places, checkedOf, writtenOf, written, writeOf, zeros, ran, runOf, paperOf, answer, solveOf};
+ghost use Rattle.network.specs.Network.{Network, Triplets, busesOf, slacksOf, generatorsOf, branchesOf, tripletsOf, networkOf};
+ghost use Rattle.network.specs.Checks.{WellIndexed};
+ghost use Rattle.injections.specs.Injections.{Good};
+ghost use Rattle.tables.specs.Tables.{Outs, outs, OnePerBus, placesOf, placesIn, roomy, checkedOf, withAnswer, written, writeOf};
+ghost use Rattle.tables.specs.Tables.{zeros, ran, runOf, paperOf, answer, solveOf};
 
 // What the call answers. Each refusal is one of the paper's: Counts is 7, Room 9, Bus 8, NotConverged 10.
 pub enum Outcome {
@@ -24,89 +27,15 @@ pub enum Outcome {
 
 // ---- the checks
 
-fn equal3(n: usize, a: usize, b: usize, c: usize) -> bool
-    ensures { λ r. ⌜ r ≡ same3 n a b c ⌝ }
-{
-    real::and(a == n, real::and(b == n, c == n))
-}
-
-fn equal7(n: usize, a: usize, b: usize, c: usize, d: usize, e: usize, f: usize, g: usize) -> bool
-    ensures { λ r. ⌜ r ≡ same7 n a b c d e f g ⌝ }
-{
-    real::and(equal3(n, a, b, c), real::and(d == n, equal3(n, e, f, g)))
-}
-
-// Refusal 7, of the lengths of the nineteen columns.
-fn counted(
-    kind: usize,
-    vm_set: usize,
-    pd: usize,
-    qd: usize,
-    pg: usize,
-    qg: usize,
-    vm_case: usize,
-    va_case: usize,
-    slacks: usize,
-    va_slacks: usize,
-    gen_bus: usize,
-    qmin: usize,
-    qmax: usize,
-    br_from: usize,
-    br_to: usize,
-    y_row: usize,
-    y_col: usize,
-    y_re: usize,
-    y_im: usize,
-) -> bool
-    ensures { λ r. ⌜ r ≡ countedBy kind «vm_set» pd qd pg qg «vm_case» «va_case» slacks «va_slacks» «gen_bus» qmin qmax «br_from» «br_to» «y_row» «y_col» «y_re» «y_im» ⌝ }
-{
-    let a = real::and(
-        kind <= 32,
-        equal7(kind, vm_set, pd, qd, pg, qg, vm_case, va_case),
-    );
-    let b = real::and(slacks <= 32, va_slacks == slacks);
-    let c = real::and(gen_bus <= 32, real::and(qmin == gen_bus, qmax == gen_bus));
-    let d = real::and(br_from <= 64, br_to == br_from);
-    let e = real::and(y_row <= 256, equal3(y_row, y_col, y_re, y_im));
-    real::and(a, real::and(b, real::and(c, real::and(d, e))))
-}
-
 // Refusal 9, of the lengths of the answer columns and the workspace.
 fn roomy(n: usize, vm: usize, va: usize, p: usize, q: usize, kinds: usize, w: usize) -> bool
-    ensures { λ r. ⌜ r ≡ roomyBy n vm va p q kinds w ⌝ }
+    ensures { λ r. ⌜ r ≡ roomy n (placesOf vm va p q kinds) w ⌝ }
 {
     real::and(
         n <= vm,
         real::and(
             n <= va,
             real::and(n <= p, real::and(n <= q, real::and(n <= kinds, 6144 <= w))),
-        ),
-    )
-}
-
-// Refusal 8.
-fn numbered(
-    n: usize,
-    slacks: &[usize],
-    gen_bus: &[usize],
-    br_from: &[usize],
-    br_to: &[usize],
-    y_row: &[usize],
-    y_col: &[usize],
-) -> bool
-    ensures { λ r. ⌜ r ≡ numberedBy n (now (slacks .entry)) (now («gen_bus» .entry)) (now («br_from» .entry)) (now («br_to» .entry)) (now («y_row» .entry)) (now («y_col» .entry)) ⌝ }
-{
-    real::and(
-        layout::below(n, slacks),
-        real::and(
-            layout::below(n, gen_bus),
-            real::and(
-                layout::below(n, br_from),
-                real::and(
-                    layout::below(n, br_to),
-                    real::and(layout::below(n, y_row), layout::below(n, y_col)),
-                ),
-            ),
         ),
     )
 }
@@ -139,19 +68,19 @@ fn write_answer(
     y_col: &[usize],
     y_re: &[f64],
     y_im: &[f64],
-    best: Settled,
+    point: Point,
+    kept: [KindAt; 32],
     vm: &mut [f64],
     va: &mut [f64],
     p: &mut [f64],
     q: &mut [f64],
     kinds: &mut [u8],
 )
-    requires { ⌜ Good n (ybus (now «y_row») (now «y_col») (now «y_re») (now «y_im»)) × (n ≤ length (now vm)) × (n ≤ length (now va)) × (n ≤ length (now p)) × (n ≤ length (now q)) × (n ≤ length (now kinds)) ⌝ }
-    ensures { λ _. ⌜ (outs (now (vm .exit)) (now (va .exit)) (now (p .exit)) (now (q .exit)) (now (kinds .exit))) ≡ writtenOf n (ybus (now («y_row» .entry)) (now («y_col» .entry)) (now («y_re» .entry)) (now («y_im» .entry))) best (outs (now (vm .entry)) (now (va .entry)) (now (p .entry)) (now (q .entry)) (now (kinds .entry))) ⌝ }
+    ghost { Triplets × Outs }
+    requires { λ α. ⌜ (tripletsOf (now «y_row») (now «y_col») (now «y_re») (now «y_im»), outs (now vm) (now va) (now p) (now q) (now kinds)) ≡ α ⌝ }
+    requires { λ (y, o). ⌜ Good n y × OnePerBus n (placesIn o) ⌝ }
+    ensures { λ (y, o) _. ⌜ outs (now (vm .exit)) (now (va .exit)) (now (p .exit)) (now (q .exit)) (now (kinds .exit)) ≡ withAnswer n y point kept o ⌝ }
 {
-    let ended = best.ended;
-    let point = ended.point;
-    let kept = best.kinds;
     let letters = moves::letters(n, kept);
     let vms = point.vm;
     let vas = point.va;
@@ -182,25 +111,40 @@ fn write(
     y_col: &[usize],
     y_re: &[f64],
     y_im: &[f64],
-    r: Kept,
+    found: AcPf,
+    point: Point,
+    kept: [KindAt; 32],
     vm: &mut [f64],
     va: &mut [f64],
     p: &mut [f64],
     q: &mut [f64],
     kinds: &mut [u8],
 ) -> Outcome
-    ghost { Ybus × Outs }
-    requires { λ α. ⌜ (ybus (now «y_row») (now «y_col») (now «y_re») (now «y_im»), outs (now vm) (now va) (now p) (now q) (now kinds)) ≡ α ⌝ ∗ ⌜ Good n (α .0) × Places n (α .1) ⌝ }
-    ensures { λ (y, o) out. ⌜ written (paperOf out) (outs (now (vm .exit)) (now (va .exit)) (now (p .exit)) (now (q .exit)) (now (kinds .exit))) ≡ writeOf n y (r .found) (r .best) o ⌝ }
+    ghost { Triplets × Outs }
+    requires { λ α. ⌜ (tripletsOf (now «y_row») (now «y_col») (now «y_re») (now «y_im»), outs (now vm) (now va) (now p) (now q) (now kinds)) ≡ α ⌝ }
+    requires { λ (y, o). ⌜ Good n y × OnePerBus n (placesIn o) ⌝ }
+    ensures { λ (y, o) r. ⌜ written (paperOf r) (outs (now (vm .exit)) (now (va .exit)) (now (p .exit)) (now (q .exit)) (now (kinds .exit)))
+        ≡ writeOf n y found point kept o ⌝ }
 {
-    let found = r.found;
-    let best = r.best;
     match found {
         AcPf::Solved {
             iterations,
             residual,
         } => {
-            write_answer(n, y_row, y_col, y_re, y_im, best, vm, va, p, q, kinds);
+            write_answer(
+                n,
+                y_row,
+                y_col,
+                y_re,
+                y_im,
+                point,
+                kept,
+                vm,
+                va,
+                p,
+                q,
+                kinds,
+            );
             Outcome::Solved {
                 iterations,
                 residual,
@@ -241,7 +185,6 @@ pub fn check(
     y_col: &[usize],
     y_re: &[f64],
     y_im: &[f64],
-    start: AcStart,
     vm: usize,
     va: usize,
     p: usize,
@@ -249,38 +192,43 @@ pub fn check(
     kinds: usize,
     w: usize,
 ) -> Checked
-    ghost { Network }
-    requires { λ t. ⌜ network (now kind) (now «vm_set») (now pd) (now qd) (now pg) (now qg) (now «vm_case») (now «va_case») (now slacks) (now «va_slacks») (now «gen_bus») (now qmin) (now qmax) (now «br_from») (now «br_to») (now «y_row») (now «y_col») (now «y_re») (now «y_im») start ≡ t ⌝ }
-    ensures { λ t r. ⌜ r ≡ checkedOf t (places vm va p q kinds w) ⌝ }
+    ensures { λ r.
+        let t = networkOf
+        (busesOf (now (kind .entry)) (now («vm_set» .entry)) (now (pd .entry)) (now (qd .entry)) (now (pg .entry)) (now (qg .entry)) (now («vm_case» .entry)) (now («va_case» .entry)))
+        (slacksOf (now (slacks .entry)) (now («va_slacks» .entry)))
+        (generatorsOf (now («gen_bus» .entry)) (now (qmin .entry)) (now (qmax .entry)))
+        (branchesOf (now («br_from» .entry)) (now («br_to» .entry)))
+        (tripletsOf (now («y_row» .entry)) (now («y_col» .entry)) (now («y_re» .entry)) (now («y_im» .entry))) in
+        ⌜ r ≡ checkedOf t (placesOf vm va p q kinds) w ⌝ }
 {
-    let n = kind.len();
-    if !counted(
-        n,
-        vm_set.len(),
-        pd.len(),
-        qd.len(),
-        pg.len(),
-        qg.len(),
-        vm_case.len(),
-        va_case.len(),
-        slacks.len(),
-        va_slacks.len(),
-        gen_bus.len(),
-        qmin.len(),
-        qmax.len(),
-        br_from.len(),
-        br_to.len(),
-        y_row.len(),
-        y_col.len(),
-        y_re.len(),
-        y_im.len(),
+    if !network::counted(
+        kind,
+        vm_set,
+        pd,
+        qd,
+        pg,
+        qg,
+        vm_case,
+        va_case,
+        slacks,
+        va_slacks,
+        gen_bus,
+        qmin,
+        qmax,
+        br_from,
+        br_to,
+        y_row,
+        y_col,
+        y_re,
+        y_im,
     ) {
         return Checked::Counts;
     }
+    let n = kind.len();
     if !roomy(n, vm, va, p, q, kinds, w) {
         return Checked::Room;
     }
-    if !numbered(n, slacks, gen_bus, br_from, br_to, y_row, y_col) {
+    if !network::numbered(n, slacks, gen_bus, br_from, br_to, y_row, y_col) {
         return Checked::Bus;
     }
     Checked::Ready
@@ -311,8 +259,17 @@ pub fn run(
     w: &mut [f64],
 ) -> Kept
     ghost { Network × List Float }
-    requires { λ α. ⌜ (network (now kind) (now «vm_set») (now pd) (now qd) (now pg) (now qg) (now «vm_case») (now «va_case») (now slacks) (now «va_slacks») (now «gen_bus») (now qmin) (now qmax) (now «br_from») (now «br_to») (now «y_row») (now «y_col») (now «y_re») (now «y_im») start, now w) ≡ α ⌝ ∗ ⌜ Ready (α .0) × (6144 ≤ length (α .1)) ⌝ }
-    ensures { λ (t, space) r. ⌜ ran (r .found) (r .best) (now (w .exit)) ≡ runOf t space ⌝ }
+    requires { λ α. ⌜ (
+      networkOf
+          (busesOf (now kind) (now «vm_set») (now pd) (now qd) (now pg) (now qg) (now «vm_case») (now «va_case»))
+          (slacksOf (now slacks) (now «va_slacks»))
+          (generatorsOf (now «gen_bus») (now qmin) (now qmax))
+          (branchesOf (now «br_from») (now «br_to»))
+          (tripletsOf (now «y_row») (now «y_col») (now «y_re») (now «y_im»)),
+      now w,
+    ) ≡ α ⌝ }
+    requires { λ (t, space). ⌜ WellIndexed t × (6144 ≤ length space) ⌝ }
+    ensures { λ (t, space) r. ⌜ ran (r .found) (r .best) (now (w .exit)) ≡ runOf start t space ⌝ }
 {
     let r = pf_ac::ac_pf_with_start(
         kind,
@@ -371,9 +328,16 @@ pub fn solve(
     kinds: &mut [u8],
     w: &mut [f64],
 ) -> Outcome
-    ghost { Network × Outs × List Float }
-    requires { λ α. ⌜ (network (now kind) (now «vm_set») (now pd) (now qd) (now pg) (now qg) (now «vm_case») (now «va_case») (now slacks) (now «va_slacks») (now «gen_bus») (now qmin) (now qmax) (now «br_from») (now «br_to») (now «y_row») (now «y_col») (now «y_re») (now «y_im») start, outs (now vm) (now va) (now p) (now q) (now kinds), now w) ≡ α ⌝ }
-    ensures { λ (t, o, space) r. ⌜ answer (paperOf r) (outs (now (vm .exit)) (now (va .exit)) (now (p .exit)) (now (q .exit)) (now (kinds .exit))) (now (w .exit)) ≡ solveOf t o space ⌝ }
+    ensures { λ r.
+        let t = networkOf
+        (busesOf (now (kind .entry)) (now («vm_set» .entry)) (now (pd .entry)) (now (qd .entry)) (now (pg .entry)) (now (qg .entry)) (now («vm_case» .entry)) (now («va_case» .entry)))
+        (slacksOf (now (slacks .entry)) (now («va_slacks» .entry)))
+        (generatorsOf (now («gen_bus» .entry)) (now (qmin .entry)) (now (qmax .entry)))
+        (branchesOf (now («br_from» .entry)) (now («br_to» .entry)))
+        (tripletsOf (now («y_row» .entry)) (now («y_col» .entry)) (now («y_re» .entry)) (now («y_im» .entry))) in
+        let o = outs (now (vm .entry)) (now (va .entry)) (now (p .entry)) (now (q .entry)) (now (kinds .entry)) in
+        let e = outs (now (vm .exit)) (now (va .exit)) (now (p .exit)) (now (q .exit)) (now (kinds .exit)) in
+        ⌜ answer (paperOf r) e (now (w .exit)) ≡ solveOf start t o (now (w .entry)) ⌝ }
 {
     let n = kind.len();
     let c = check(
@@ -396,7 +360,6 @@ pub fn solve(
         y_col,
         y_re,
         y_im,
-        start,
         vm.len(),
         va.len(),
         p.len(),
@@ -429,7 +392,24 @@ pub fn solve(
                 start,
                 w,
             );
-            write(n, y_row, y_col, y_re, y_im, r, vm, va, p, q, kinds)
+            let found = r.found;
+            let point = r.best.ended.point;
+            let kept = r.best.kinds;
+            write(
+                n,
+                y_row,
+                y_col,
+                y_re,
+                y_im,
+                found,
+                point,
+                kept,
+                vm,
+                va,
+                p,
+                q,
+                kinds,
+            )
         }
         Checked::Counts => Outcome::Counts,
         Checked::Room => Outcome::Room,

@@ -13,6 +13,6 @@ returns c =
     λ i. busesOf (f .0 i) (f .1 i) (f .2 i) (f .3 i) (b .0 i) (b .1 i) (b .2 i) (b .3 i)
 
 pub fill-buses-spec : {M : Type 1} → statement M
-fill-buses-spec = 
+fill-buses-spec =
     tie.close
     (tie.spec (λ c κs. search needs) (λ c κs. search needs) (λ c. search needs) (λ c. search needs) (λ c. search needs) (λ c. search needs) (λ c. search needs) (λ c. search needs) (λ c. search needs) (λ c. search needs) returns)

@@ -13,6 +13,6 @@ returns c =
     (λ i. branchesOf (l .0 i) (l .1 i), λ i. tripletsOf (y .0 i) (y .1 i) (y .2 i) (y .3 i))
 
 pub fill-lines-spec : {M : Type 1} → statement M
-fill-lines-spec = 
+fill-lines-spec =
     tie.close
     (tie.spec (λ c κs. search needs) (λ c κs. search needs) (λ c. search needs) (λ c. search needs) (λ c. search needs) (λ c. search needs) (λ c. search needs) (λ c. search needs) returns)

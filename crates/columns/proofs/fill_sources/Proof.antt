@@ -13,6 +13,6 @@ returns c =
     (λ i. slacksOf (r .0 i) (r .1 i), λ i. generatorsOf (g .0 i) (g .1 i) (g .2 i))
 
 pub fill-sources-spec : {M : Type 1} → statement M
-fill-sources-spec = 
+fill-sources-spec =
     tie.close
     (tie.spec (λ c κs. search needs) (λ c κs. search needs) (λ c. search needs) (λ c. search needs) (λ c. search needs) (λ c. search needs) (λ c. search needs) returns)

@@ -51,6 +51,10 @@ triplets-sized t h =
 
 -- ---- all of them
 
+pub buses-few : (t : Network) → counted t ≡ true → busCount t ≤ 32
+unfolding counted
+buses-few t h = buses-sized (t .buses) (both-l _ _ h) .few
+
 pub well-indexed : (t : Network) → counted t ≡ true → numbered t ≡ true → WellIndexed t
 unfolding counted numbered
 well-indexed t h k =

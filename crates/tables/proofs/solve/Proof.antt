@@ -2,38 +2,39 @@
 use mathlib.Core.Path.{refl}
 use borrow.Author.Needs.{needs}
 use Rattle.tables.specs.declared.Outcome.the-variants.{Counts, Room, Bus}
-use Rattle.tables.specs.Tables.Laws.{met, ready, rooms, solve-ready, solve-refused}
+use Rattle.network.specs.Checks.Laws.{well-indexed}
+use Rattle.pf_ac.specs.WithStart.Laws.{good-triplets}
+use Rattle.tables.specs.Tables.Laws.{met, one-per-bus, solve-ready, solve-refused}
 use Rattle.tables.proofs.solve.Statement.{statement}
 use Rattle.tables.proofs.solve.Tie as tie
 
 run-requires : tie.Need-run-requires
 run-requires c κs =
     let e = c .before in
-    let m = met _ _ (rw (e .enum-told .given .1) at (e .before .before .check .ensures)) in
-    (ready _ (m .is-counted) (m .is-numbered), rooms _ _ (m .is-roomy) .space)
+    let m = met _ _ _ (rw (e .enum-told .given .1) at (e .before .before .check .ensures)) in
+    (well-indexed _ (m .is-counted) (m .is-numbered), one-per-bus _ _ _ (m .is-roomy) .1)
 
 write-requires : tie.Need-write-requires
 write-requires c κs =
-    let e = c .before .before .before .before .before .before .before .before .before in
-    let m = met _ _ (rw (e .enum-told .given .1) at (e .before .before .check .ensures)) in
-    let r = rooms _ _ (m .is-roomy) in
-    (ready _ (m .is-counted) (m .is-numbered) .triplets, record { vm = r .vm; va = r .va; p = r .p; q = r .q; kinds = r .kinds })
+    let e = c .before .before .before .before .before .before .before .before .before .before .before in
+    let m = met _ _ _ (rw (e .enum-told .given .1) at (e .before .before .check .ensures)) in
+    (good-triplets _ (well-indexed _ (m .is-counted) (m .is-numbered)), one-per-bus _ _ _ (m .is-roomy) .0)
 
 returns : tie.Need-returns
 returns c =
     let w = c .before .before .before .before .before .before .before .before .before .before in
-    let r = w .before .before .before .before .before .before .before .before in
+    let r = w .before .before .before .before .before .before .before .before .before .before in
     let e = r .before .before in
-    solve-ready _ _ _ _ (e .before .before .check .ensures) (e .enum-told .given .1) _ _ _ (r .run .ensures) (w .write .result) _ (w .write .ensures)
+    solve-ready _ _ _ _ _ (e .before .before .check .ensures) (e .enum-told .given .1) _ _ _ (r .run .ensures) (w .write .result) _ (w .write .ensures)
 
 returns-2 : tie.Need-returns-2
-returns-2 c = solve-refused _ _ _ _ (c .before .before .check .ensures) Counts (rw (c .enum-told2 .given .1))
+returns-2 c = solve-refused _ _ _ _ _ (c .before .before .check .ensures) Counts (rw (c .enum-told2 .given .1))
 
 returns-3 : tie.Need-returns-3
-returns-3 c = solve-refused _ _ _ _ (c .before .before .check .ensures) Room (rw (c .enum-told3 .given .1))
+returns-3 c = solve-refused _ _ _ _ _ (c .before .before .check .ensures) Room (rw (c .enum-told3 .given .1))
 
 returns-4 : tie.Need-returns-4
-returns-4 c = solve-refused _ _ _ _ (c .before .before .check .ensures) Bus (rw (c .enum-told4 .given .1))
+returns-4 c = solve-refused _ _ _ _ _ (c .before .before .check .ensures) Bus (rw (c .enum-told4 .given .1))
 
 pub solve-spec : {M : Type 1} → statement M
 solve-spec =

@@ -3,12 +3,6 @@ use borrow.Author.Needs.{needs}
 use Rattle.tables.proofs.write.Statement.{statement}
 use Rattle.tables.proofs.write.Tie as tie
 
-write-answer-requires : tie.Need-write-answer-requires
-write-answer-requires c κs =
-    let s = c .before .before .before .before .before .before .before .before .before .before .before .before .before .before .before .before .before .before in
-    let m = s .pre .1 in
-    (s .pre .0, m .vm, m .va, m .p, m .q, m .kinds)
-
 returns : tie.Need-returns
 returns c =
     let w = c .before .before .before .before .before .before .before .before .before .before in
@@ -20,14 +14,5 @@ returns-2 c = rw (c .before .found2 .given .1)
 pub write-spec : {M : Type 1} → statement M
 write-spec =
     tie.close
-    (tie.spec
-    (λ c. search needs)
-    write-answer-requires
-    (λ c. search needs)
-    (λ c. search needs)
-    (λ c. search needs)
-    (λ c. search needs)
-    (λ c. search needs)
-    (λ c. search needs)
-    returns
-    returns-2)
+    (tie.spec (λ c. search needs) (λ c κs. search needs) (λ c. search needs) (λ c. search needs) (λ c. search needs) (λ c. search needs) (λ c. search needs)
+    (λ c. search needs) returns returns-2)

@@ -1,6 +1,6 @@
 -- `tables::write_answer` meets its contract, column by column. Assumes nothing.
 use borrow.Author.Needs.{needs}
-use Rattle.tables.specs.Tables.Laws.{written-is}
+use Rattle.tables.specs.Tables.Laws.{answer-written}
 use Rattle.tables.proofs.write_answer.Statement.{statement}
 use Rattle.tables.proofs.write_answer.Tie as tie
 
@@ -9,7 +9,6 @@ use Rattle.tables.proofs.write_answer.Tie as tie
 abbrev power-of : tie.After-fill-arg → tie.After-ac-injections
 power-of c = c .before .before .before .before
 
--- the letters, and the start from there
 abbrev letters-of : tie.After-ac-injections → tie.After-letters
 letters-of i = i .before .before .before
 
@@ -30,20 +29,20 @@ kinds-of c = c .before .before
 
 -- ---- and the start
 
-abbrev start1 : tie.After-fill-arg → tie.Start
-start1 c = power-of c .before .before .before .before .before .before .before .before .before .before .before .before .before .before .before .before
+abbrev vm-start : tie.After-fill-arg → tie.Start
+vm-start c = letters-of (power-of c) .before .before .before .before .before .before .before .before .before .before
 
-abbrev start2 : tie.After-fill-arg2 → tie.Start
-start2 c = start1 (vm-of c .before)
+abbrev va-start : tie.After-fill-arg2 → tie.Start
+va-start c = vm-start (vm-of c .before)
 
-abbrev start3 : tie.After-fill-arg3 → tie.Start
-start3 c = start2 (va-of c .before)
+abbrev p-start : tie.After-fill-arg3 → tie.Start
+p-start c = va-start (va-of c .before)
 
-abbrev start4 : tie.After-fill-arg4 → tie.Start
-start4 c = start3 (p-of c .before)
+abbrev q-start : tie.After-fill-arg4 → tie.Start
+q-start c = p-start (p-of c .before)
 
-abbrev start5 : tie.After-fill-bytes-arg → tie.Start
-start5 c = start4 (q-of c .before)
+abbrev kinds-start : tie.After-fill-bytes-arg → tie.Start
+kinds-start c = q-start (q-of c .before)
 
 returns : tie.Need-returns
 returns c =
@@ -53,7 +52,7 @@ returns c =
     let a = va-of (p .before) in
     let m = vm-of (a .before) in
     let i = power-of (m .before) in
-    written-is _ _ _ _ (i .ac-injections .result) (i .ac-injections .ensures) _ (letters-of i .letters .ensures) _ _ _ _ _
+    answer-written _ _ _ _ _ (i .ac-injections .result) (i .ac-injections .ensures) _ (letters-of i .letters .ensures) _ _ _ _ _
     (m .fill .ensures) (a .fill2 .ensures) (p .fill3 .ensures) (q .fill4 .ensures) (k .fill-bytes .ensures)
 
 pub write-answer-spec : {M : Type 1} → statement M
@@ -62,11 +61,11 @@ write-answer-spec =
     (tie.spec
     (λ c κs. search needs)
     (λ c κs. search needs)
-    (λ c κs. let r = start1 c .pre in (r .0 .few, r .1))
-    (λ c κs. let r = start2 c .pre in (r .0 .few, r .2))
-    (λ c κs. let r = start3 c .pre in (r .0 .few, r .3))
-    (λ c κs. let r = start4 c .pre in (r .0 .few, r .4))
-    (λ c κs. let r = start5 c .pre in (r .0 .few, r .5))
+    (λ c κs. let r = vm-start c .pre in (r .0 .few, r .1 .vm))
+    (λ c κs. let r = va-start c .pre in (r .0 .few, r .1 .va))
+    (λ c κs. let r = p-start c .pre in (r .0 .few, r .1 .p))
+    (λ c κs. let r = q-start c .pre in (r .0 .few, r .1 .q))
+    (λ c κs. let r = kinds-start c .pre in (r .0 .few, r .1 .kinds))
     (λ c. vm-of (va-of (p-of (q-of (kinds-of c .before) .before) .before) .before) .fill .kept .1 .1 .0)
     (λ c. va-of (p-of (q-of (kinds-of c .before) .before) .before) .fill2 .kept .1 .1 .0)
     (λ c. p-of (q-of (kinds-of c .before) .before) .fill3 .kept .1 .1 .0)
