@@ -46,8 +46,8 @@ struct Room {
 fn known(b: u8) -> bool
     ensures { λ r. ⌜ r ≡ has b alphabet ⌝ }
 {
-    let t = b"\n -.0123456789?BRGLYVQ";
-    fields::find(t, 0, 22, b) < 22
+    let all = b"\n -.0123456789?BRGLYVQ";
+    fields::find(all, 0, 22, b) < 22
 }
 
 // The place of the first byte before e that is not of the alphabet, or e.

@@ -4,7 +4,7 @@ use mathlib.Core.Path.{_≡_, refl, sym, ap, _∙_}
 use mathlib.Core.Bool.{true}
 use mathlib.Core.Logic.{⊎-elim}
 use mathlib.Core.List.{List, [], _∷_, _++_, append-assoc}
-use Prim.Native.Nat.{ℕ, zero, suc, _+_, _-_, _*_, _≤_, _<_}
+use Prim.Native.Nat.{ℕ, zero, suc, _+_, _*_, _≤_, _<_}
 use native.Mathlib.Numerals.{add-one}
 use native.Mathlib.Omega.{arith}
 use lib.Dec.{eqb}
@@ -59,8 +59,8 @@ groups-printed (suc k) s at low end to h e w =
 trailer-printed : (k : ℕ) (s : List ℕ) (t : ℕ) → t + widthOf k ≡ length s → GoodTrailer k s t → drop t s ≡ trailerPrinted k s t
 trailer-printed k s t h w =
     let e = t + 1 + 6 * k in
-    let z : length s ≤ e + 1 = omega arith in
-    let lf : drop e s ≡ 10 ∷ [] = drop-step s e (omega arith) ∙ rw (w .end, drop-of-length-le s z) in
+    let ends : length s ≤ e + 1 = omega arith in
+    let lf : drop e s ≡ 10 ∷ [] = drop-step s e (omega arith) ∙ rw (w .end, drop-of-length-le s ends) in
     drop-step s t (omega arith)
     ∙ ap (λ (x : List ℕ). getD s t 0 ∷ x)
     (groups-printed k s (t + 1) 0 t e (w .groups-rise) refl (omega arith) ∙ ap (λ (x : List ℕ). groupsPrinted k s (t + 1) ++ x) lf)
