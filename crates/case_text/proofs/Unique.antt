@@ -4,11 +4,11 @@ use mathlib.Core.Path.{_≡_, refl, sym, ap, _∙_}
 use mathlib.Core.Bool.{true, cond}
 use mathlib.Core.Logic.{_↔_}
 use mathlib.Core.List.{List}
-use Prim.Native.Nat.{ℕ, _-_}
+use Prim.Native.Nat.{ℕ}
 use lib.Dec.{eqb}
-use lib.ListN.{length}
 use Rattle.real.specs.Paper.{Paper, given, refused, placeIn, onGiven}
 use Rattle.network.specs.Network.{Network, roomOf, fitsOf}
+use Rattle.trailer.specs.Trailer.{trailerStart}
 use Rattle.case_text.specs.Text.{textOf}
 use Rattle.case_text.specs.Answer.{paperOf, judgedOf, filledOf, Outcome, outcome, outcomeOf, readOf}
 use Rattle.case_text.specs.Answer.Laws.{with-room}
@@ -73,7 +73,7 @@ module _ (s : List ℕ) (old new : Network) (r : Reading) (h : outcome (paperOf 
   accepts c = (λ e. with-room (textOf s) (roomOf old) c (sym answer-is ∙ e), λ e. answer-is ∙ rw (e .0, e .1))
 
   -- and then the places written are the definition's values
-  pub writes : (c : Contents) → r ≡ Reading.Good c → new ≡ filledOf s (length s - 38) old
+  pub writes : (c : Contents) → r ≡ Reading.Good c → new ≡ filledOf s (trailerStart s) old
   unfolding readOf
   writes c e = ap left h ∙ ap (λ (v : Reading). left (outcomeOf s v old)) (sym answer-is ∙ e)
 

@@ -1,15 +1,14 @@
 -- The reader's answer: 01's number and values for each case, refusal 9, and the tables afterwards.
 pub mod Laws
-use Prim.Native.Nat.{ℕ, _-_}
+use Prim.Native.Nat.{ℕ}
 use mathlib.Core.Bool.{cond}
 use mathlib.Core.List.{List, [], _∷_}
-use lib.ListN.{length}
 use Rattle.real.specs.Paper.{Paper, given, refused, whole, onGiven}
 use Rattle.network.specs.declared.Rows.{Rows}
 use Rattle.network.specs.Network.{Network, networkOf, roomOf, fitsOf}
 use Rattle.rows.specs.declared.Section.the-variants as Section
 use Rattle.columns.specs.Columns.{filledBuses, filledSlacks, filledGenerators, filledBranches, filledTriplets}
-use Rattle.trailer.specs.Trailer.{bytesOf}
+use Rattle.trailer.specs.Trailer.{trailerStart, bytesOf}
 use Rattle.case_text.specs.Text.{textOf}
 use Rattle.case_text.specs.declared.Contents.{Contents}
 use Rattle.case_text.specs.declared.Reading.{Reading}
@@ -49,7 +48,7 @@ pub data Outcome : Type 0 where
 
 -- "A reader refusal leaves its output columns untouched."
 abbrev pub outcomeOf : List ℕ → Reading → Network → Outcome
-outcomeOf s v old = outcome (paperOf v) (onGiven (paperOf v) (λ c. filledOf s (length s - 38) old) old)
+outcomeOf s v old = outcome (paperOf v) (onGiven (paperOf v) (λ c. filledOf s (trailerStart s) old) old)
 
 -- what the reader answers and leaves, of the text and the columns as they were
 unfoldable pub readOf : List ℕ → Network → Outcome

@@ -1,6 +1,6 @@
 -- A whole case text: "1, 2, then 3 over the whole body; then line by line 6, 4, 5".
 pub mod Laws
-use Prim.Native.Nat.{ℕ, _-_}
+use Prim.Native.Nat.{ℕ}
 use mathlib.Core.Bool.{cond}
 use mathlib.Core.List.{List}
 use lib.Dec.{ltb}
@@ -13,7 +13,7 @@ use Rattle.rows.specs.declared.Section.the-variants as Section
 use Rattle.rows.specs.declared.Check.{Check}
 use Rattle.rows.specs.declared.Check.the-variants as Check
 use Rattle.case_text.specs.Alphabet.{knownOf}
-use Rattle.trailer.specs.Trailer.{modeOf, trailerOf, startOf, bytesOf}
+use Rattle.trailer.specs.Trailer.{trailerLength, trailerStart, modeOf, trailerOf, startOf, bytesOf}
 use Rattle.case_text.specs.declared.Reading.{Reading}
 use Rattle.case_text.specs.declared.Reading.the-variants as Reading
 
@@ -63,6 +63,6 @@ afterLength s t = cond (trailerOf s t) (afterTrailer s t) (Reading.Trailer t)
 -- refusal 1: "text under 38 bytes (place: its length) or over 32,768 (place: 32,768)"
 abbrev pub textOf : List ℕ → Reading
 textOf s =
-    cond (ltb (length s) 38) (Reading.Length (length s))
+    cond (ltb (length s) trailerLength) (Reading.Length (length s))
     (cond (ltb 32768 (length s)) (Reading.Length 32768)
-    (afterLength s (length s - 38)))
+    (afterLength s (trailerStart s)))

@@ -8,7 +8,7 @@ ghost use lib.ListN.{length};
 ghost use lib.Seq.{slice};
 ghost use Rattle.network.specs.Network.{busesOf, slacksOf, generatorsOf, branchesOf, tripletsOf, networkOf};
 ghost use Rattle.fields.specs.Cut.{has};
-ghost use Rattle.trailer.specs.Trailer.{trailerOf};
+ghost use Rattle.trailer.specs.Trailer.{trailerLength, trailerOf};
 ghost use Rattle.case_text.specs.Alphabet.{alphabet, knownOf};
 ghost use Rattle.case_text.specs.Text.{partOf, refusedOf, bodyOf, textOf};
 ghost use Rattle.case_text.specs.Answer.{outcome, paperOf, readOf, judgedOf};
@@ -35,8 +35,8 @@ pub enum Reading {
 fn known(b: u8) -> bool
     ensures { λ r. ⌜ r ≡ has b alphabet ⌝ }
 {
-    let t = b"\n -.0123456789?BRGLYVQ";
-    fields::find(t, 0, 22, b) < 22
+    let all = b"\n -.0123456789?BRGLYVQ";
+    fields::find(all, 0, 22, b) < 22
 }
 
 // The place of the first byte before e that is not of the alphabet, or e.
@@ -56,7 +56,7 @@ fn stranger(s: &[u8], e: usize) -> usize
 }
 
 fn check_part(s: &[u8], t: usize, z: rows::Section) -> rows::Check
-    requires { ⌜ (t + 38 ≤ length (now s)) × (trailerOf (now s) t ≡ true) ⌝ }
+    requires { ⌜ (t + trailerLength ≤ length (now s)) × (trailerOf (now s) t ≡ true) ⌝ }
     ensures { λ r. ⌜ r ≡ partOf z (now (s .entry)) t ⌝ }
 {
     rows::check_section(s, trailer::start_of(s, t, z), trailer::end_of(s, t, z), z)
@@ -76,7 +76,7 @@ fn refused(v: rows::Check) -> Reading
 
 // The sections in turn.
 fn body(s: &[u8], t: usize) -> Reading
-    requires { ⌜ (t + 38 ≤ length (now s)) × (trailerOf (now s) t ≡ true) ⌝ }
+    requires { ⌜ (t + trailerLength ≤ length (now s)) × (trailerOf (now s) t ≡ true) ⌝ }
     ensures { λ r. ⌜ r ≡ bodyOf (now (s .entry)) t ⌝ }
 {
     let vb = check_part(s, t, rows::Section::B);
@@ -117,13 +117,13 @@ fn check_text(s: &[u8]) -> Reading
     ensures { λ r. ⌜ r ≡ textOf (now (s .entry)) ⌝ }
 {
     let n = s.len();
-    if n < 38 {
+    if n < trailer::LENGTH {
         return Reading::Length(n);
     }
     if 32768 < n {
         return Reading::Length(32768);
     }
-    let t = n - 38;
+    let t = n - trailer::LENGTH;
     if !trailer::is_trailer(s, t) {
         return Reading::Trailer(t);
     }

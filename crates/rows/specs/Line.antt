@@ -22,13 +22,13 @@ spacedOf k n fs = allSome fs && eqb (k + length fs) n
 
 -- "its section's letter and the named number of fields, none empty, with one space before each", of a line cut at its spaces
 abbrev pub formOf : Section → List (List ℕ) → Bool
-formOf t [] = false
-formOf t (f ∷ fs) = only (letterOf t) f && spacedOf 0 (countOf t) fs
+formOf z [] = false
+formOf z (f ∷ fs) = only (letterOf z) f && spacedOf 0 (countOf z) fs
 
 -- the fields from field j on, which start at `at`: refusal 5 at the first wrong one
 unfoldable pub fieldsOf : Section → ℕ → ℕ → List (List ℕ) → Check
-fieldsOf t j at [] = Check.Good 1
-fieldsOf t j at (f ∷ fs) = cond (goodOf (wantOf t j) f) (fieldsOf t (j + 1) (at + length f + 1) fs) (Check.Field at)
+fieldsOf z j at [] = Check.Good 1
+fieldsOf z j at (f ∷ fs) = cond (goodOf (wantOf z j) f) (fieldsOf z (j + 1) (at + length f + 1) fs) (Check.Field at)
 
 -- the fields of a line cut at its spaces: all pieces but the letter
 abbrev pub tail : List (List ℕ) → List (List ℕ)
@@ -37,4 +37,4 @@ tail (f ∷ fs) = fs
 
 -- refusal 4 at the line's start, then 5
 abbrev pub lineOf : Section → ℕ → List ℕ → Check
-lineOf t at l = cond (formOf t (pieces 32 l)) (fieldsOf t 0 (at + 2) (tail (pieces 32 l))) (Check.Form at)
+lineOf z at l = cond (formOf z (pieces 32 l)) (fieldsOf z 0 (at + 2) (tail (pieces 32 l))) (Check.Form at)

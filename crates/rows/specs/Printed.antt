@@ -22,5 +22,5 @@ abbrev pub tableOf : List ℕ → List (List (List ℕ))
 tableOf l = map fieldsIn (rowsOf l)
 
 unfoldable pub printed : Section → List (List (List ℕ)) → List ℕ
-printed t [] = []
-printed t (fs ∷ rows) = letterOf t ∷ (spread 32 fs ++ (10 ∷ printed t rows))
+printed z [] = []
+printed z (fs ∷ rows) = letterOf z ∷ (spread 32 fs ++ (10 ∷ printed z rows))

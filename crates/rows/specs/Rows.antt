@@ -21,16 +21,16 @@ after (Check.Field at) v = Check.Field at
 
 -- the pieces from `at` on, after r rows: "line by line 6, 4, 5"; "a section that doesn't end in LF is refusal 4 at its last line"
 unfoldable pub sectionOf : Section → ℕ → ℕ → List (List ℕ) → Check
-sectionOf t r at [] = Check.Good r
-sectionOf t r at (l ∷ ls) =
+sectionOf z r at [] = Check.Good r
+sectionOf z r at (l ∷ ls) =
     cond (empty l && empty ls) (Check.Good r)
-    (cond (leb (sizeOf t) r) (Check.Rows at)
+    (cond (leb (sizeOf z) r) (Check.Rows at)
     (cond (empty ls) (Check.Form at)
-    (after (lineOf t at l) (sectionOf t (r + 1) (at + length l + 1) ls))))
+    (after (lineOf z at l) (sectionOf z (r + 1) (at + length l + 1) ls))))
 
 -- the check of a section's bytes, which start at `at`
 abbrev pub checkOf : Section → ℕ → List ℕ → Check
-checkOf t at l = sectionOf t 0 at (pieces 10 l)
+checkOf z at l = sectionOf z 0 at (pieces 10 l)
 
 -- all pieces but the last
 unfoldable pub ended : List (List ℕ) → List (List ℕ)

@@ -33,10 +33,10 @@ pub enum Check {
     Field(usize),
 }
 
-fn letter(t: Section) -> u8
-    ensures { λ r. ⌜ r ≡ letterOf t ⌝ }
+fn letter(z: Section) -> u8
+    ensures { λ r. ⌜ r ≡ letterOf z ⌝ }
 {
-    match t {
+    match z {
         Section::B => b'B',
         Section::R => b'R',
         Section::G => b'G',
@@ -45,10 +45,10 @@ fn letter(t: Section) -> u8
     }
 }
 
-fn count(t: Section) -> usize
-    ensures { λ r. ⌜ r ≡ countOf t ⌝ }
+fn count(z: Section) -> usize
+    ensures { λ r. ⌜ r ≡ countOf z ⌝ }
 {
-    match t {
+    match z {
         Section::B => 8,
         Section::R => 2,
         Section::G => 3,
@@ -57,10 +57,10 @@ fn count(t: Section) -> usize
     }
 }
 
-fn size(t: Section) -> usize
-    ensures { λ r. ⌜ r ≡ sizeOf t ⌝ }
+fn size(z: Section) -> usize
+    ensures { λ r. ⌜ r ≡ sizeOf z ⌝ }
 {
-    match t {
+    match z {
         Section::B => 32,
         Section::R => 32,
         Section::G => 32,
@@ -70,10 +70,10 @@ fn size(t: Section) -> usize
 }
 
 // What field j holds, counted from 0.
-fn wanted(t: Section, j: usize) -> Want
-    ensures { λ r. ⌜ r ≡ wantOf t j ⌝ }
+fn wanted(z: Section, j: usize) -> Want
+    ensures { λ r. ⌜ r ≡ wantOf z j ⌝ }
 {
-    match t {
+    match z {
         Section::B => {
             if j == 0 {
                 return Want::Kind;
@@ -144,30 +144,30 @@ fn spaced(s: &[u8], a: usize, e: usize, n: usize) -> bool
 }
 
 // Whether the line has the form that its section asks.
-fn form(s: &[u8], a: usize, e: usize, t: Section) -> bool
+fn form(s: &[u8], a: usize, e: usize, z: Section) -> bool
     requires { ⌜ (a ≤ e) × (e ≤ length (now s)) ⌝ }
-    ensures { λ r. ⌜ r ≡ formOf t (pieces 32 (slice a e (now (s .entry)))) ⌝ }
+    ensures { λ r. ⌜ r ≡ formOf z (pieces 32 (slice a e (now (s .entry)))) ⌝ }
 {
     let p = fields::find(s, a, e, b' ');
     if p == e {
         return false;
     }
-    if fields::is_byte(s, a, p, letter(t)) {
-        return spaced(s, p + 1, e, count(t));
+    if fields::is_byte(s, a, p, letter(z)) {
+        return spaced(s, p + 1, e, count(z));
     }
     false
 }
 
 // The first wrong field, left to right.
-fn check_fields(s: &[u8], a: usize, e: usize, t: Section) -> Check
+fn check_fields(s: &[u8], a: usize, e: usize, z: Section) -> Check
     requires { ⌜ (a ≤ e) × (e ≤ length (now s)) ⌝ }
-    ensures { λ r. ⌜ r ≡ fieldsOf t 0 a (pieces 32 (slice a e (now (s .entry)))) ⌝ }
+    ensures { λ r. ⌜ r ≡ fieldsOf z 0 a (pieces 32 (slice a e (now (s .entry)))) ⌝ }
 {
     let mut i = a;
     let mut j: usize = 0;
     loop {
         let q = fields::find(s, i, e, b' ');
-        if good(s, i, q, wanted(t, j)) {
+        if good(s, i, q, wanted(z, j)) {
             if q == e {
                 return Check::Good(1);
             }
@@ -180,32 +180,32 @@ fn check_fields(s: &[u8], a: usize, e: usize, t: Section) -> Check
 }
 
 // A line, its LF not counted.
-fn check_line(s: &[u8], a: usize, e: usize, t: Section) -> Check
+fn check_line(s: &[u8], a: usize, e: usize, z: Section) -> Check
     requires { ⌜ (a ≤ e) × (e ≤ length (now s)) ⌝ }
-    ensures { λ r. ⌜ r ≡ lineOf t a (slice a e (now (s .entry))) ⌝ }
+    ensures { λ r. ⌜ r ≡ lineOf z a (slice a e (now (s .entry))) ⌝ }
 {
-    if form(s, a, e, t) {
-        return check_fields(s, a + 2, e, t);
+    if form(s, a, e, z) {
+        return check_fields(s, a + 2, e, z);
     }
     Check::Form(a)
 }
 
 // A section, line by line: 6, then 4, then 5.
-pub fn check_section(s: &[u8], a: usize, e: usize, t: Section) -> Check
+pub fn check_section(s: &[u8], a: usize, e: usize, z: Section) -> Check
     requires { ⌜ (a ≤ e) × (e ≤ length (now s)) ⌝ }
-    ensures { λ r. ⌜ r ≡ checkOf t a (slice a e (now (s .entry))) ⌝ }
+    ensures { λ r. ⌜ r ≡ checkOf z a (slice a e (now (s .entry))) ⌝ }
 {
     let mut i = a;
     let mut r: usize = 0;
     while i < e {
-        if size(t) <= r {
+        if size(z) <= r {
             return Check::Rows(i);
         }
         let p = fields::find(s, i, e, b'\n');
         if p == e {
             return Check::Form(i);
         }
-        let v = check_line(s, i, p, t);
+        let v = check_line(s, i, p, z);
         let Check::Good(_) = v else {
             return v;
         };

@@ -1,10 +1,11 @@
 -- 01: "The trailer is the last 38 bytes: `F` (flat) or `C` (case start), then six times a space and five digits, then LF." It starts at the place t.
+-- What holds of any count of groups is said of k groups; 01's count stands in `groups` alone.
 pub mod Laws
-use Prim.Native.Nat.{ℕ, zero, suc, _+_}
+use Prim.Native.Nat.{ℕ, zero, suc, _+_, _-_, _*_}
 use mathlib.Core.Bool.{Bool, cond, _&&_, _||_}
 use mathlib.Core.List.{List}
 use lib.Dec.{eqb, leb}
-use lib.ListN.{getD}
+use lib.ListN.{length, getD}
 use lib.Seq.{slice}
 use Rattle.fields.specs.Digits.{digitsOf, isNumber, numberIn}
 use Rattle.fields.specs.declared.Digits.{Digits}
@@ -15,6 +16,22 @@ use Rattle.trailer.specs.declared.Places.{Places}
 use Rattle.starts.specs.declared.AcStart.{AcStart}
 use Rattle.starts.specs.declared.AcStart.the-variants.{Flat, Case}
 
+-- "six times a space and five digits"
+abbrev pub groups : ℕ
+groups = 6
+
+-- the bytes of a trailer of k groups: its flag, k times a space and five digits, LF
+abbrev pub widthOf : ℕ → ℕ
+widthOf k = 1 + 6 * k + 1
+
+-- "the last 38 bytes"
+abbrev pub trailerLength : ℕ
+trailerLength = widthOf groups
+
+-- "the length less 38"
+abbrev pub trailerStart : List ℕ → ℕ
+trailerStart s = length s - trailerLength
+
 -- "a space and five digits", at a place
 abbrev pub groupOf : List ℕ → ℕ → Digits
 groupOf s at = cond (eqb (getD s at 0) 32) (digitsOf 0 (slice (at + 1) (at + 6) s)) Digits.Other
@@ -23,35 +40,44 @@ groupOf s at = cond (eqb (getD s at 0) 32) (digitsOf 0 (slice (at + 1) (at + 6) 
 abbrev pub startAt : List ℕ → ℕ → ℕ
 startAt s at = numberIn (groupOf s at)
 
+-- the number of group j of the trailer at t, counted from 0: behind the flag and j groups
+abbrev pub numberOf : List ℕ → ℕ → ℕ → ℕ
+numberOf s t j = startAt s (t + 1 + 6 * j)
+
 -- so many groups from a place on, their numbers from `low` on: "they never fall", and the last is `end`
 unfoldable pub risingOf : ℕ → List ℕ → ℕ → ℕ → ℕ → Bool
 risingOf zero s at low end = eqb low end
 risingOf (suc k) s at low end = isNumber (groupOf s at) && (leb low (startAt s at) && risingOf k s (at + 6) (startAt s at) end)
 
+-- "`F` (flat) or `C` (case start)"
 abbrev pub flagged : ℕ → Bool
 flagged b = eqb b 70 || eqb b 67
 
 abbrev pub modeOf : ℕ → AcStart
 modeOf b = cond (eqb b 70) Flat Case
 
--- "the first is 0, they never fall, the last is the length less 38", which is t; what breaks this is refusal 2
+-- behind the flag at t stand k groups, "then LF"; "the first is 0, they never fall, the last is the length less 38", which is t
+abbrev pub trailerBy : ℕ → List ℕ → ℕ → Bool
+trailerBy k s t = eqb (getD s (t + 1 + 6 * k) 0) 10 && (eqb (numberOf s t 0) 0 && risingOf k s (t + 1) 0 t)
+
+-- 01's trailer; "a break of any of these rules is refusal 2"
 unfoldable pub trailerOf : List ℕ → ℕ → Bool
-trailerOf s t = flagged (getD s t 0) && (eqb (getD s (t + 37) 0) 10 && (eqb (startAt s (t + 1)) 0 && risingOf 6 s (t + 1) 0 t))
+trailerOf s t = flagged (getD s t 0) && trailerBy groups s t
 
--- "the numbers are the starts of B, R, G, L, Y and of the trailer": where each section's number stands, counted from the trailer's start
-abbrev pub offsetOf : Section → ℕ
-offsetOf Section.B = 1
-offsetOf Section.R = 7
-offsetOf Section.G = 13
-offsetOf Section.L = 19
-offsetOf Section.Y = 25
+-- "the numbers are the starts of B, R, G, L, Y and of the trailer": which of them is a section's, counted from 0
+abbrev pub indexOf : Section → ℕ
+indexOf Section.B = 0
+indexOf Section.R = 1
+indexOf Section.G = 2
+indexOf Section.L = 3
+indexOf Section.Y = 4
 
--- a section's bytes stand from its start up to the next start, whose number stands six bytes on
+-- a section's bytes stand from its start up to the next start
 abbrev pub startOf : Section → List ℕ → ℕ → ℕ
-startOf z s t = startAt s (t + offsetOf z)
+startOf z s t = numberOf s t (indexOf z)
 
 abbrev pub endOf : Section → List ℕ → ℕ → ℕ
-endOf z s t = startAt s (t + (offsetOf z + 6))
+endOf z s t = numberOf s t (indexOf z + 1)
 
 abbrev pub placesOf : List ℕ → ℕ → Places
 placesOf s t = record {

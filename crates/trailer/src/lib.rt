@@ -3,9 +3,15 @@ use fields::Digits;
 use rows::Section;
 use starts::AcStart;
 ghost use mathlib.Core.Path.{_≡_};
-ghost use Prim.Native.Nat.{_+_, _-_, _*_, _≤_};
+ghost use Prim.Native.Nat.{_+_, _*_, _≤_, _<_};
 ghost use lib.ListN.{length};
-ghost use Rattle.trailer.specs.Trailer.{groupOf, startAt, risingOf, flagged, modeOf, trailerOf, offsetOf, startOf, endOf, placesOf};
+ghost use Rattle.trailer.specs.Trailer.{groups, widthOf, trailerLength, trailerStart, groupOf, startAt, numberOf, risingOf, flagged, modeOf, trailerBy, trailerOf, indexOf, startOf, endOf, placesOf};
+
+// The groups of a trailer.
+pub const GROUPS: usize = 6;
+
+// The bytes of a trailer: its flag, its groups of six bytes each, and LF.
+pub const LENGTH: usize = 1 + 6 * GROUPS + 1;
 
 // Where the sections start, and the trailer.
 pub struct Places {
@@ -63,6 +69,14 @@ fn start_at(s: &[u8], at: usize) -> usize
     fields::number_in(group_at(s, at))
 }
 
+// The number of group j of the trailer at t, counted from 0.
+fn number_of(s: &[u8], t: usize, j: usize) -> usize
+    requires { ⌜ t + 1 + 6 * j + 6 ≤ length (now s) ⌝ }
+    ensures { λ r. ⌜ r ≡ numberOf (now (s .entry)) t j ⌝ }
+{
+    start_at(s, t + 1 + 6 * j)
+}
+
 // Whether n groups stand from at on, whose numbers never fall, and the last is `end`.
 fn rising(s: &[u8], at: usize, n: usize, end: usize) -> bool
     requires { ⌜ at + 6 * n ≤ length (now s) ⌝ }
@@ -103,58 +117,65 @@ pub fn mode(b: u8) -> AcStart
     AcStart::Case
 }
 
-// Whether the 38 bytes from t on are a trailer.
-pub fn is_trailer(s: &[u8], t: usize) -> bool
-    requires { ⌜ t + 38 ≤ length (now s) ⌝ }
-    ensures { λ r. ⌜ r ≡ trailerOf (now (s .entry)) t ⌝ }
+// Whether k groups and LF stand behind the flag at t, the first number 0, none below the one before, and the last t.
+fn is_trailer_by(s: &[u8], t: usize, k: usize) -> bool
+    requires { ⌜ (0 < k) × (t + widthOf k ≤ length (now s)) ⌝ }
+    ensures { λ r. ⌜ r ≡ trailerBy k (now (s .entry)) t ⌝ }
 {
-    if is_flag(s[t]) {
-        if s[t + 37] == b'\n' {
-            if start_at(s, t + 1) == 0 {
-                return rising(s, t + 1, 6, t);
-            }
+    if s[t + 1 + 6 * k] == b'\n' {
+        if number_of(s, t, 0) == 0 {
+            return rising(s, t + 1, k, t);
         }
     }
     false
 }
 
-// Where a section's number stands, and where the next one's, counted from the trailer's start.
-fn offset(z: Section) -> usize
-    ensures { λ r. ⌜ (r ≡ offsetOf z) × (r ≤ 25) ⌝ }
+// Whether a trailer stands from t on.
+pub fn is_trailer(s: &[u8], t: usize) -> bool
+    requires { ⌜ t + trailerLength ≤ length (now s) ⌝ }
+    ensures { λ r. ⌜ r ≡ trailerOf (now (s .entry)) t ⌝ }
+{
+    if is_flag(s[t]) {
+        return is_trailer_by(s, t, GROUPS);
+    }
+    false
+}
+
+// Which group has a section's start, counted from 0. It is not the last one.
+fn index(z: Section) -> usize
+    ensures { λ r. ⌜ (r ≡ indexOf z) × (r + 1 < groups) ⌝ }
 {
     match z {
-        Section::B => 1,
-        Section::R => 7,
-        Section::G => 13,
-        Section::L => 19,
-        Section::Y => 25,
+        Section::B => 0,
+        Section::R => 1,
+        Section::G => 2,
+        Section::L => 3,
+        Section::Y => 4,
     }
 }
 
 // Where a section starts.
 pub fn start_of(s: &[u8], t: usize, z: Section) -> usize
-    requires { ⌜ t + 38 ≤ length (now s) ⌝ }
+    requires { ⌜ t + trailerLength ≤ length (now s) ⌝ }
     ensures { λ r. ⌜ r ≡ startOf z (now (s .entry)) t ⌝ }
 {
-    let k = offset(z);
-    start_at(s, t + k)
+    number_of(s, t, index(z))
 }
 
-// Where a section ends: at the next one's start, whose number stands six bytes on.
+// Where a section ends: at the next start.
 pub fn end_of(s: &[u8], t: usize, z: Section) -> usize
-    requires { ⌜ t + 38 ≤ length (now s) ⌝ }
+    requires { ⌜ t + trailerLength ≤ length (now s) ⌝ }
     ensures { λ r. ⌜ r ≡ endOf z (now (s .entry)) t ⌝ }
 {
-    let k = offset(z) + 6;
-    start_at(s, t + k)
+    number_of(s, t, index(z) + 1)
 }
 
 // Where the sections of a good text start, and its trailer.
 pub fn section_places(s: &[u8]) -> Places
-    requires { ⌜ 38 ≤ length (now s) ⌝ }
-    ensures { λ r. ⌜ r ≡ placesOf (now (s .entry)) (length (now (s .entry)) - 38) ⌝ }
+    requires { ⌜ trailerLength ≤ length (now s) ⌝ }
+    ensures { λ r. ⌜ r ≡ placesOf (now (s .entry)) (trailerStart (now (s .entry))) ⌝ }
 {
-    let t = s.len() - 38;
+    let t = s.len() - LENGTH;
     Places {
         b: start_of(s, t, Section::B),
         r: start_of(s, t, Section::R),

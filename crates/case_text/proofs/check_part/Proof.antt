@@ -9,9 +9,10 @@ use Rattle.case_text.proofs.check_part.Tie as tie
 
 check-section-requires : tie.Need-check-section-requires
 check-section-requires c κs =
-    let z = c .before .before .before in
-    let a = z .args in
-    omega (arith, within (a .s .now) (a .t) (z .pre .1) (a .z) .ordered, within (a .s .now) (a .t) (z .pre .1) (a .z) .inside)
+    let x = c .before .before .before in
+    let a = x .args in
+    let w = within (a .s .now) (a .t) (x .pre .1) (a .z) in
+    omega (arith, w .ordered, w .inside)
 
 returns : tie.Need-returns
 unfolding partOf bytesOf

@@ -3,7 +3,7 @@ use mathlib.Core.Path.{_≡_, refl, sym, ap, _∙_}
 use mathlib.Core.Bool.{true, cond}
 use mathlib.Core.Logic.{⊎-elim}
 use mathlib.Core.List.{List}
-use Prim.Native.Nat.{ℕ, _-_, _≤_}
+use Prim.Native.Nat.{ℕ, _≤_}
 use native.Mathlib.Omega.{arith}
 use lib.ListN.{length}
 use lib.Seq.{slice}
@@ -19,7 +19,7 @@ use Rattle.rows.specs.declared.Section.{Section}
 use Rattle.rows.specs.declared.Section.the-variants as Section
 use Rattle.rows.specs.declared.Check.the-variants as Check
 use Rattle.columns.specs.Columns.{rowCount}
-use Rattle.trailer.specs.Trailer.{startOf, bytesOf, placesOf}
+use Rattle.trailer.specs.Trailer.{trailerStart, startOf, bytesOf, placesOf}
 use Rattle.trailer.specs.Trailer.Laws.{within}
 use Rattle.case_text.specs.Text.{partOf, textOf}
 use Rattle.case_text.specs.Text.Laws.{Accepted, accepted-has}
@@ -32,7 +32,7 @@ use Rattle.case_text.specs.declared.Reading.the-variants as Reading
 -- ---- a good answer: the text is accepted, and its rows fit
 
 pub record Fitting (s : List ℕ) (m : Rows) (c : Contents) : Type 0 where
-  pub accepted : Accepted s (length s - 38) c
+  pub accepted : Accepted s (trailerStart s) c
   pub fits : fitsOf (c .rows) m ≡ true
 
 -- the text is good and its rows fit, where the answer is good
@@ -87,10 +87,10 @@ pub record Placed (s : List ℕ) (old : Network) (p : Places) : Type 0 where
   pub branches : RoomBranches (rowCount (slice (p .l) (p .y) s)) (old .branches)
   pub triplets : RoomTriplets (rowCount (slice (p .y) (p .t) s)) (old .triplets)
 
-placed-at : (s : List ℕ) (old : Network) (c : Contents) → Fitting s (roomOf old) c → Placed s old (placesOf s (length s - 38))
+placed-at : (s : List ℕ) (old : Network) (c : Contents) → Fitting s (roomOf old) c → Placed s old (placesOf s (trailerStart s))
 unfolding bytesOf
 placed-at s old c f =
-    let t = length s - 38 in
+    let t = trailerStart s in
     let a = f .accepted in
     let w = within s t (a .trailer) in
     let m = fits-at-most (c .rows) (roomOf old) (f .fits) in
@@ -108,7 +108,7 @@ placed-at s old c f =
       triplets = room-triplets _ _ (rw (← part-rows Section.Y s t (c .rows .triplets) (a .body .triplets)) (m .triplets));
     }
 
-pub placed : (s : List ℕ) (old : Network) (m : Rows) (c : Contents) (p : Places) → m ≡ roomOf old → judgedOf s m ≡ Reading.Good c → p ≡ placesOf s (length s - 38)
+pub placed : (s : List ℕ) (old : Network) (m : Rows) (c : Contents) (p : Places) → m ≡ roomOf old → judgedOf s m ≡ Reading.Good c → p ≡ placesOf s (trailerStart s)
     → Placed s old p
 placed s old m c p r h e = rw e (placed-at s old c (fitting s (roomOf old) c (rw r at h)))
 
@@ -132,10 +132,10 @@ module _ (s : List ℕ) (old : Network) (m : Rows) (v : Reading) (r : m ≡ room
   judged : judgedOf s (roomOf old) ≡ v
   judged = ap (judgedOf s) (sym r) ∙ sym h
 
-  pub read-good : (c : Contents) (p : Places) (new : Network) → v ≡ Reading.Good c → p ≡ placesOf s (length s - 38) → new ≡ filledBy s p old
+  pub read-good : (c : Contents) (p : Places) (new : Network) → v ≡ Reading.Good c → p ≡ placesOf s (trailerStart s) → new ≡ filledBy s p old
       → outcome (paperOf v) new ≡ readOf s old
   unfolding readOf
-  read-good c p new g q w = rw (judged, g, w, q, filled-at s (length s - 38) old)
+  read-good c p new g q w = rw (judged, g, w, q, filled-at s (trailerStart s) old)
 
   pub read-refused : outcomeOf s v old ≡ outcome (paperOf v) old → outcome (paperOf v) old ≡ readOf s old
   unfolding readOf

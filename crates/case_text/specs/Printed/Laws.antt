@@ -4,7 +4,7 @@ use mathlib.Core.Path.{_≡_, refl, sym, ap, _∙_}
 use mathlib.Core.Bool.{true}
 use mathlib.Core.Logic.{⊎-elim}
 use mathlib.Core.List.{List, [], _∷_, _++_, append-assoc}
-use Prim.Native.Nat.{ℕ, zero, suc, _+_, _-_, _*_, _≤_, _<_}
+use Prim.Native.Nat.{ℕ, zero, suc, _+_, _*_, _≤_, _<_}
 use native.Mathlib.Numerals.{add-one}
 use native.Mathlib.Omega.{arith}
 use lib.Dec.{eqb}
@@ -19,8 +19,8 @@ use Rattle.rows.specs.Printed.Laws.{section-printed, section-sound, Sound}
 use Rattle.rows.specs.declared.Section.{Section}
 use Rattle.rows.specs.declared.Section.the-variants as Section
 use Rattle.rows.specs.declared.Check.the-variants as Check
-use Rattle.trailer.specs.Trailer.{groupOf, startAt, risingOf, startOf, endOf, bytesOf}
-use Rattle.trailer.specs.Trailer.Laws.{first-group, groups-after, Good, good, rising, Within, within}
+use Rattle.trailer.specs.Trailer.{groups, widthOf, trailerLength, trailerStart, groupOf, startAt, risingOf, indexOf, startOf, endOf, bytesOf}
+use Rattle.trailer.specs.Trailer.Laws.{first-group, groups-after, GoodTrailer, good-trailer, rising, Within, within}
 use Rattle.case_text.specs.Text.{partOf, textOf}
 use Rattle.case_text.specs.Text.Laws.{accepted-has}
 use Rattle.case_text.specs.Printed.{rowsPrinted, groupsPrinted, trailerPrinted, textPrinted}
@@ -56,14 +56,14 @@ groups-printed (suc k) s at low end to h e w =
     drop-step s at (omega arith)
     ∙ rw (group-space s at g, ← slice-join s (at + 1) (at + 6) (omega arith) (omega arith), rest) (ap (λ (x : List ℕ). 32 ∷ x) (sym (append-assoc (slice (at + 1) (at + 6) s) (groupsPrinted k s (at + 6)) (drop to s))))
 
-trailer-printed : (s : List ℕ) (t : ℕ) → t + 38 ≡ length s → Good s t → drop t s ≡ trailerPrinted s t
-trailer-printed s t h w =
-    let z : length s ≤ t + 37 + 1 = omega arith in
-    let e : drop (t + 37) s ≡ 10 ∷ [] =
-    drop-step s (t + 37) (omega arith) ∙ ap (λ (x : ℕ). x ∷ drop (t + 37 + 1) s) (w .end) ∙ ap (λ (x : List ℕ). 10 ∷ x) (drop-of-length-le s z) in
+trailer-printed : (k : ℕ) (s : List ℕ) (t : ℕ) → t + widthOf k ≡ length s → GoodTrailer k s t → drop t s ≡ trailerPrinted k s t
+trailer-printed k s t h w =
+    let e = t + 1 + 6 * k in
+    let ends : length s ≤ e + 1 = omega arith in
+    let lf : drop e s ≡ 10 ∷ [] = drop-step s e (omega arith) ∙ rw (w .end, drop-of-length-le s ends) in
     drop-step s t (omega arith)
     ∙ ap (λ (x : List ℕ). getD s t 0 ∷ x)
-    (groups-printed 6 s (t + 1) 0 t (t + 37) (w .groups) (omega arith) (omega arith) ∙ ap (λ (x : List ℕ). groupsPrinted 6 s (t + 1) ++ x) e)
+    (groups-printed k s (t + 1) 0 t e (w .groups-rise) refl (omega arith) ∙ ap (λ (x : List ℕ). groupsPrinted k s (t + 1) ++ x) lf)
 
 -- ---- the sections
 
@@ -74,18 +74,18 @@ part-printed z s t n rest h k g q =
     sym (slice-join s (startOf z s t) (endOf z s t) h k) ∙ ap (λ (x : List ℕ). slice (startOf z s t) (endOf z s t) s ++ x) q
     ∙ ap (λ (x : List ℕ). x ++ rest) (section-printed z (startOf z s t) (slice (startOf z s t) (endOf z s t) s) n g)
 
-end-inside : (s : List ℕ) (z : Section) → Within (startOf z s (length s - 38)) (endOf z s (length s - 38)) (length s - 38) → 38 ≤ length s
-    → endOf z s (length s - 38) ≤ length s
+end-inside : (s : List ℕ) (z : Section) → Within (startOf z s (trailerStart s)) (endOf z s (trailerStart s)) (trailerStart s) → trailerLength ≤ length s
+    → endOf z s (trailerStart s) ≤ length s
 end-inside s z w h = omega (arith, w .inside)
 
 -- ---- the whole
 
-pub text-printed : (s : List ℕ) (c : Contents) → textOf s ≡ Reading.Good c → s ≡ textPrinted s (length s - 38)
+pub text-printed : (s : List ℕ) (c : Contents) → textOf s ≡ Reading.Good c → s ≡ textPrinted s (trailerStart s)
 text-printed s c h =
-    let t = length s - 38 in
+    let t = trailerStart s in
     let a = accepted-has s c h in
-    let g = good s t (a .trailer) in
-    let u = rising s t g in
+    let g = good-trailer s t (a .trailer) in
+    let u = rising groups s t g in
     let w = within s t (a .trailer) in
     let b = a .body in
     ap (λ (n : ℕ). drop n s) (sym (g .zero-first))
@@ -94,7 +94,7 @@ text-printed s c h =
     (part-printed Section.G s t (c .rows .generators) _ (w Section.G .ordered) (end-inside s Section.G (w Section.G) (a .least)) (b .generators)
     (part-printed Section.L s t (c .rows .branches) _ (w Section.L .ordered) (end-inside s Section.L (w Section.L) (a .least)) (b .branches)
     (part-printed Section.Y s t (c .rows .triplets) _ (w Section.Y .ordered) (end-inside s Section.Y (w Section.Y) (a .least)) (b .triplets)
-    (ap (λ (n : ℕ). drop n s) (u .last) ∙ trailer-printed s t (omega (arith, a .least)) g)))))
+    (ap (λ (n : ℕ). drop n s) (u .last (indexOf Section.Y + 1) refl) ∙ trailer-printed groups s t (omega (arith, a .least)) g)))))
 
 -- every field of every row is what is asked of it
 pub fields-sound : (s : List ℕ) (t n : ℕ) (z : Section) → partOf z s t ≡ Check.Good n → (k : ℕ) → k < length (rowsOf (bytesOf z s t))

@@ -3,7 +3,7 @@ use mathlib.Core.Path.{_≡_, refl}
 use mathlib.Core.Bool.{true, false, true≢false, cond}
 use mathlib.Core.Logic.{⊎-elim}
 use mathlib.Core.List.{List}
-use Prim.Native.Nat.{ℕ, _-_, _≤_}
+use Prim.Native.Nat.{ℕ, _≤_}
 use lib.Dec.{eqb, ltb}
 use lib.ListN.{length, getD}
 use lib.Seq.{slice}
@@ -14,7 +14,7 @@ use Rattle.rows.specs.declared.Section.the-variants as Section
 use Rattle.rows.specs.declared.Check.{Check}
 use Rattle.rows.specs.declared.Check.the-variants as Check
 use Rattle.case_text.specs.Alphabet.{knownOf}
-use Rattle.trailer.specs.Trailer.{modeOf, trailerOf}
+use Rattle.trailer.specs.Trailer.{trailerLength, trailerStart, modeOf, trailerOf}
 use Rattle.case_text.specs.Text.{partOf, thenSection, afterY, afterL, afterG, afterR, afterB, bodyOf, afterTrailer, afterLength, textOf}
 use Rattle.case_text.specs.Answer.{paperOf}
 use Rattle.case_text.specs.declared.Contents.{Contents}
@@ -31,7 +31,7 @@ pub record Body (s : List ℕ) (t : ℕ) (c : Contents) : Type 0 where
   pub triplets : partOf Section.Y s t ≡ Check.Good (c .rows .triplets)
 
 pub record Accepted (s : List ℕ) (t : ℕ) (c : Contents) : Type 0 where
-  pub least : 38 ≤ length s
+  pub least : trailerLength ≤ length s
   pub most : length s ≤ 32768
   pub trailer : trailerOf s t ≡ true
   pub known : t ≤ knownOf (slice 0 t s)
@@ -63,7 +63,7 @@ module _ (s : List ℕ) (t : ℕ) where
       sections (Body s t) (partOf Section.Y s t) (afterY s t nb nr ng nl) (λ ny y.
       record { start = refl; buses = b; slacks = r; generators = g; branches = l; triplets = y })))))
 
-  module _ (low : 38 ≤ length s) (high : length s ≤ 32768) where
+  module _ (low : trailerLength ≤ length s) (high : length s ≤ 32768) where
     known-sound : trailerOf s t ≡ true → Where (Accepted s t) (paperOf (afterTrailer s t))
     known-sound w =
         ⊎-elim (λ q. rw q)
@@ -74,13 +74,13 @@ module _ (s : List ℕ) (t : ℕ) where
     trailer-sound = ⊎-elim (λ q. rw q (known-sound q)) (λ q. rw q) (decided (trailerOf s t))
 
 module _ (s : List ℕ) where
-  most-sound : 38 ≤ length s → Where (Accepted s (length s - 38)) (paperOf (cond (ltb 32768 (length s)) (Reading.Length 32768) (afterLength s (length s - 38))))
-  most-sound h = ⊎-elim (λ q. rw q) (λ q. rw q (trailer-sound s (length s - 38) h (ltb-false 32768 (length s) q))) (decided (ltb 32768 (length s)))
+  most-sound : trailerLength ≤ length s → Where (Accepted s (trailerStart s)) (paperOf (cond (ltb 32768 (length s)) (Reading.Length 32768) (afterLength s (trailerStart s))))
+  most-sound h = ⊎-elim (λ q. rw q) (λ q. rw q (trailer-sound s (trailerStart s) h (ltb-false 32768 (length s) q))) (decided (ltb 32768 (length s)))
 
-  pub text-sound : Where (Accepted s (length s - 38)) (paperOf (textOf s))
-  text-sound = ⊎-elim (λ q. rw q) (λ q. rw q (most-sound (ltb-false (length s) 38 q))) (decided (ltb (length s) 38))
+  pub text-sound : Where (Accepted s (trailerStart s)) (paperOf (textOf s))
+  text-sound = ⊎-elim (λ q. rw q) (λ q. rw q (most-sound (ltb-false (length s) trailerLength q))) (decided (ltb (length s) trailerLength))
 
-  pub accepted-has : (c : Contents) → textOf s ≡ Reading.Good c → Accepted s (length s - 38) c
+  pub accepted-has : (c : Contents) → textOf s ≡ Reading.Good c → Accepted s (trailerStart s) c
   accepted-has c h = rw h at text-sound
 
   -- refusal 9 is none of the text's

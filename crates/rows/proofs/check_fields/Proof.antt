@@ -12,23 +12,23 @@ use Rattle.rows.proofs.check_fields.Statement.{statement}
 use Rattle.rows.proofs.check_fields.Tie as tie
 
 abbrev Inv-loop : tie.InvT-loop
-Inv-loop s a e t i₀ j₀ i j =
-    (i ≤ e) × (j ≤ i) × (fieldsOf t j i (pieces 32 (slice i e s)) ≡ fieldsOf t 0 a (pieces 32 (slice a e s)))
+Inv-loop s a e z i₀ j₀ i j =
+    (i ≤ e) × (j ≤ i) × (fieldsOf z j i (pieces 32 (slice i e s)) ≡ fieldsOf z 0 a (pieces 32 (slice a e s)))
 
 abbrev μ-loop : tie.MeasureT-loop
-μ-loop s a e t i₀ j₀ i j = e - i
+μ-loop s a e z i₀ j₀ i j = e - i
 
 loop-holds : tie.Need-loop-holds Inv-loop μ-loop
 loop-holds c = (search needs, search needs, refl)
 
 -- what the two calls say of the field found: whether it is what is asked
 said : (c : tie.After-good2 Inv-loop μ-loop) → let l = c .before .before .before .loop in let a = c .before .before .before .before .before .args in
-    goodOf (wantOf (a .t) (l .j)) (slice (l .i) (c .before .before .find .result) (a .s .now)) ≡ c .good2 .result
+    goodOf (wantOf (a .z) (l .j)) (slice (l .i) (c .before .before .find .result) (a .s .now)) ≡ c .good2 .result
 said c =
     let l = c .before .before .before .loop in
     let a = c .before .before .before .before .before .args in
     let field = slice (l .i) (c .before .before .find .result) (a .s .now) in
-    good-is (a .t) (l .j) field (c .before .wanted .result) (c .before .wanted .ensures) (c .good2 .result) (c .good2 .ensures)
+    good-is (a .z) (l .j) field (c .before .wanted .result) (c .before .wanted .ensures) (c .good2 .result) (c .good2 .ensures)
 
 returns : tie.Need-returns Inv-loop μ-loop
 returns c =

@@ -13,13 +13,13 @@ use Rattle.rows.proofs.check_line.Tie as tie
 check-fields-requires : tie.Need-check-fields-requires
 check-fields-requires c κs =
     let a = c .before .before .before .args in
-    omega (arith, form-split (a .s .now) (a .a) (a .e) (a .t) (omega arith) (omega arith) (sym (c .before .form .ensures) ∙ c .if1 .taken) .0)
+    omega (arith, form-split (a .s .now) (a .a) (a .e) (a .z) (omega arith) (omega arith) (sym (c .before .form .ensures) ∙ c .if1 .taken) .0)
 
 returns : tie.Need-returns
 returns c =
     let a = c .before .before .before .before .args in
-    let g : formOf (a .t) (pieces 32 (slice (a .a) (a .e) (a .s .now))) ≡ true = sym (c .before .before .form .ensures) ∙ c .before .if1 .taken in
-    rw (g, form-split (a .s .now) (a .a) (a .e) (a .t) (omega arith) (omega arith) g .1) (c .check-fields .ensures)
+    let g : formOf (a .z) (pieces 32 (slice (a .a) (a .e) (a .s .now))) ≡ true = sym (c .before .before .form .ensures) ∙ c .before .if1 .taken in
+    rw (g, form-split (a .s .now) (a .a) (a .e) (a .z) (omega arith) (omega arith) g .1) (c .check-fields .ensures)
 
 returns-2 : tie.Need-returns-2
 returns-2 c = rw (← c .before .form .ensures, c .if1 .left)

@@ -25,11 +25,11 @@ kept (Check.Form n) w h = refl
 kept (Check.Field n) w h = refl
 
 abbrev Inv-loop : tie.InvT-loop
-Inv-loop s a e t i₀ r₀ i r =
-    (i ≤ e) × (r ≤ i) × (sectionOf t r i (pieces 10 (slice i e s)) ≡ sectionOf t 0 a (pieces 10 (slice a e s)))
+Inv-loop s a e z i₀ r₀ i r =
+    (i ≤ e) × (r ≤ i) × (sectionOf z r i (pieces 10 (slice i e s)) ≡ sectionOf z 0 a (pieces 10 (slice a e s)))
 
 abbrev μ-loop : tie.MeasureT-loop
-μ-loop s a e t i₀ r₀ i r = e - i
+μ-loop s a e z i₀ r₀ i r = e - i
 
 loop-holds : tie.Need-loop-holds Inv-loop μ-loop
 loop-holds c = (search needs, search needs, refl)
@@ -38,7 +38,7 @@ returns : tie.Need-returns Inv-loop μ-loop
 returns c =
     let a = c .before .before .before .before .before .args in
     let l = c .before .before .before .loop in
-    sym (too-many (a .t) (l .r) (a .s .now) (l .i) (a .e) _ (omega arith) (omega arith)
+    sym (too-many (a .z) (l .r) (a .s .now) (l .i) (a .e) _ (omega arith) (omega arith)
     (found (a .s .now) (l .i) (a .e) 10 (omega arith) (omega arith) _ refl) (rw (← c .before .size .ensures) (c .if1 .taken))) ∙ l .inv .2
 
 returns-2 : tie.Need-returns-2 Inv-loop μ-loop
@@ -73,7 +73,7 @@ returns-4 : tie.Need-returns-4 Inv-loop μ-loop
 returns-4 c =
     let a = c .before .before .before .args in
     let l = c .before .loop in
-    sym (section-end (a .t) (l .r) (a .s .now) (l .i) (a .e) (omega arith)) ∙ l .inv .2
+    sym (section-end (a .z) (l .r) (a .s .now) (l .i) (a .e) (omega arith)) ∙ l .inv .2
 
 pub check-section-spec : {M : Type 1} → statement M
 check-section-spec =

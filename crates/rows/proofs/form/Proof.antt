@@ -8,7 +8,7 @@ use Rattle.rows.proofs.form.Tie as tie
 returns : tie.Need-returns
 returns c =
     let a = c .before .before .before .args in
-    rw (c .before .find .ensures .last (omega arith), no-fields (a .t))
+    rw (c .before .find .ensures .last (omega arith), no-fields (a .z))
 
 returns-2 : tie.Need-returns-2
 returns-2 c =

@@ -1,7 +1,7 @@
 -- A line's turns: the search for the next space gives the next field, of the form and of the fields. Assumes nothing.
 use mathlib.Core.Path.{_≡_, refl, sym, ap, _∙_}
 use mathlib.Core.Bool.{Bool, true, false, and-false}
-use mathlib.Core.Logic.{_⊎_, ⊎-elim}
+use mathlib.Core.Logic.{⊎-elim}
 use mathlib.Core.List.{List, [], _∷_}
 use Prim.Native.Nat.{ℕ, suc, _+_, _≤_, _<_}
 use native.Mathlib.Omega.{arith}
@@ -40,7 +40,7 @@ module _ (s : List ℕ) (i e q k n : ℕ) (h : e ≤ length s) (f : Found s i e 
         let v : k + suc (length fs) ≡ k + 1 + length fs = omega arith in
         rw (f .more w, here, v)
 
-pub no-fields : (t : Section) (f : List ℕ) → formOf t (f ∷ []) ≡ false
+pub no-fields : (z : Section) (f : List ℕ) → formOf z (f ∷ []) ≡ false
 unfolding allSome
 no-fields Section.B f = and-false (only 66 f)
 no-fields Section.R f = and-false (only 82 f)
@@ -49,17 +49,17 @@ no-fields Section.L f = and-false (only 76 f)
 no-fields Section.Y f = and-false (only 89 f)
 
 -- where the form is good the fields start two bytes behind the line's start
-module _ (s : List ℕ) (a e : ℕ) (t : Section) (h : a ≤ e) (k : e ≤ length s) (g : formOf t (pieces 32 (slice a e s)) ≡ true) where
+module _ (s : List ℕ) (a e : ℕ) (z : Section) (h : a ≤ e) (k : e ≤ length s) (g : formOf z (pieces 32 (slice a e s)) ≡ true) where
   letter-first : (p : ℕ) → Found s a e 32 p → (p < e) × (p ≡ a + 1)
   letter-first p f =
       ⊎-elim
       (λ q. (
         q,
-        (let w : formOf t (slice a p s ∷ pieces 32 (slice (p + 1) e s)) ≡ true = rw (f .more q) at g in
+        (let w : formOf z (slice a p s ∷ pieces 32 (slice (p + 1) e s)) ≡ true = rw (f .more q) at g in
             let i : p ≤ length s = omega (arith, f .high) in
-            omega (arith, f .low, ap length (only-is (letterOf t) (slice a p s) (and-left _ _ w)), length-slice a p s i)),
+            omega (arith, f .low, ap length (only-is (letterOf z) (slice a p s) (and-left _ _ w)), length-slice a p s i)),
       ))
-      (λ q. absurd (true-false (rw (f .last q) at g) (no-fields t (slice a p s))))
+      (λ q. absurd (true-false (rw (f .last q) at g) (no-fields z (slice a p s))))
       (below-or p e)
 
   pub form-split : (a + 2 ≤ e) × (tail (pieces 32 (slice a e s)) ≡ pieces 32 (slice (a + 2) e s))
@@ -73,20 +73,20 @@ module _ (s : List ℕ) (a e : ℕ) (t : Section) (h : a ≤ e) (k : e ≤ lengt
 -- ---- the fields
 
 -- what two calls say of a field
-pub good-is : (t : Section) (j : ℕ) (f : List ℕ) (w : Want) → w ≡ wantOf t j → (b : Bool) → b ≡ goodOf w f → goodOf (wantOf t j) f ≡ b
-good-is t j f w p b q = rw (← p) (sym q)
+pub good-is : (z : Section) (j : ℕ) (f : List ℕ) (w : Want) → w ≡ wantOf z j → (b : Bool) → b ≡ goodOf w f → goodOf (wantOf z j) f ≡ b
+good-is z j f w p b q = rw (← p) (sym q)
 
-module _ (s : List ℕ) (t : Section) (i e q j : ℕ) (h : e ≤ length s) (f : Found s i e 32 q) where
-  pub field-wrong : goodOf (wantOf t j) (slice i q s) ≡ false → fieldsOf t j i (pieces 32 (slice i e s)) ≡ Check.Field i
+module _ (s : List ℕ) (z : Section) (i e q j : ℕ) (h : e ≤ length s) (f : Found s i e 32 q) where
+  pub field-wrong : goodOf (wantOf z j) (slice i q s) ≡ false → fieldsOf z j i (pieces 32 (slice i e s)) ≡ Check.Field i
   unfolding fieldsOf
   field-wrong g = ⊎-elim (λ w. rw (f .more w, g)) (λ w. rw (f .last w, g)) (below-or q e)
 
-  module _ (g : goodOf (wantOf t j) (slice i q s) ≡ true) where
-    pub field-last : e ≤ q → fieldsOf t j i (pieces 32 (slice i e s)) ≡ Check.Good 1
+  module _ (g : goodOf (wantOf z j) (slice i q s) ≡ true) where
+    pub field-last : e ≤ q → fieldsOf z j i (pieces 32 (slice i e s)) ≡ Check.Good 1
     unfolding fieldsOf
     field-last w = rw (f .last w, g)
 
-    pub field-on : q < e → fieldsOf t j i (pieces 32 (slice i e s)) ≡ fieldsOf t (j + 1) (q + 1) (pieces 32 (slice (q + 1) e s))
+    pub field-on : q < e → fieldsOf z j i (pieces 32 (slice i e s)) ≡ fieldsOf z (j + 1) (q + 1) (pieces 32 (slice (q + 1) e s))
     unfolding fieldsOf
     field-on w =
         let r : q ≤ length s = omega (arith, f .high) in

@@ -49,13 +49,13 @@ join-pieces x (b ∷ r) =
 
 -- ---- a line
 
-formed : (t : Section) (ps : List (List ℕ)) → formOf t ps ≡ true → join 32 ps ≡ letterOf t ∷ spread 32 (tail ps)
-formed t [] h = absurd (true-false h refl)
-formed t (f ∷ fs) h = rw (only-is (letterOf t) f (and-left _ _ h))
+formed : (z : Section) (ps : List (List ℕ)) → formOf z ps ≡ true → join 32 ps ≡ letterOf z ∷ spread 32 (tail ps)
+formed z [] h = absurd (true-false h refl)
+formed z (f ∷ fs) h = rw (only-is (letterOf z) f (and-left _ _ h))
 
 -- a line whose form is good is its letter and its fields, one space before each
-pub line-printed : (t : Section) (l : List ℕ) → formOf t (pieces 32 l) ≡ true → l ≡ letterOf t ∷ spread 32 (fieldsIn l)
-line-printed t l h = sym (join-pieces 32 l) ∙ formed t (pieces 32 l) h
+pub line-printed : (z : Section) (l : List ℕ) → formOf z (pieces 32 l) ≡ true → l ≡ letterOf z ∷ spread 32 (fieldsIn l)
+line-printed z l h = sym (join-pieces 32 l) ∙ formed z (pieces 32 l) h
 
 -- ---- what a good answer says of the tests on the way
 
@@ -71,9 +71,9 @@ after-rest (Check.Rows k) w n h = never (Check.Rows k) n h refl
 after-rest (Check.Form k) w n h = never (Check.Form k) n h refl
 after-rest (Check.Field k) w n h = never (Check.Field k) n h refl
 
-line-form : (t : Section) (at : ℕ) (l : List ℕ) (w : Check) (n : ℕ) → after (lineOf t at l) w ≡ Check.Good n → formOf t (pieces 32 l) ≡ true
-line-form t at l w n h =
-    ⊎-elim (λ p. p) (λ p. never (Check.Form at) n (rw p at h) refl) (decided (formOf t (pieces 32 l)))
+line-form : (z : Section) (at : ℕ) (l : List ℕ) (w : Check) (n : ℕ) → after (lineOf z at l) w ≡ Check.Good n → formOf z (pieces 32 l) ≡ true
+line-form z at l w n h =
+    ⊎-elim (λ p. p) (λ p. never (Check.Form at) n (rw p at h) refl) (decided (formOf z (pieces 32 l)))
 
 neither : {A : Type 0} (b : Bool) (at n : ℕ) → cond b (Check.Rows at) (Check.Form at) ≡ Check.Good n → A
 neither true at n h = never (Check.Rows at) n h refl
@@ -81,82 +81,82 @@ neither false at n h = never (Check.Form at) n h refl
 
 -- ---- a section
 
-lines-printed : (t : Section) (r at : ℕ) (ps : List (List ℕ)) (n : ℕ) → empty ps ≡ false → sectionOf t r at ps ≡ Check.Good n
-    → join 10 ps ≡ printed t (map fieldsIn (ended ps))
+lines-printed : (z : Section) (r at : ℕ) (ps : List (List ℕ)) (n : ℕ) → empty ps ≡ false → sectionOf z r at ps ≡ Check.Good n
+    → join 10 ps ≡ printed z (map fieldsIn (ended ps))
 unfolding sectionOf ended printed spread
-lines-printed t r at [] n g h = absurd (true-false refl g)
-lines-printed t r at (l ∷ []) n g h =
+lines-printed z r at [] n g h = absurd (true-false refl g)
+lines-printed z r at (l ∷ []) n g h =
     ⊎-elim (λ p. rw (empty-is l p))
-    (λ p. neither (leb (sizeOf t) r) at n (rw p at h))
+    (λ p. neither (leb (sizeOf z) r) at n (rw p at h))
     (decided (empty l))
-lines-printed t r at (l ∷ m ∷ ms) n g h =
+lines-printed z r at (l ∷ m ∷ ms) n g h =
     let k = rw (and-false (empty l)) at h in
     ⊎-elim (λ q. never (Check.Rows at) n (rw q at k) refl)
     (λ q. let v = rw q at k in
-    ap (λ (x : List ℕ). x ++ (10 ∷ join 10 (m ∷ ms))) (line-printed t l (line-form t at l _ n v))
-    ∙ ap (λ (x : List ℕ). letterOf t ∷ (spread 32 (fieldsIn l) ++ (10 ∷ x)))
-    (lines-printed t (r + 1) (at + length l + 1) (m ∷ ms) n refl (after-rest (lineOf t at l) _ n v)))
-    (decided (leb (sizeOf t) r))
+    ap (λ (x : List ℕ). x ++ (10 ∷ join 10 (m ∷ ms))) (line-printed z l (line-form z at l _ n v))
+    ∙ ap (λ (x : List ℕ). letterOf z ∷ (spread 32 (fieldsIn l) ++ (10 ∷ x)))
+    (lines-printed z (r + 1) (at + length l + 1) (m ∷ ms) n refl (after-rest (lineOf z at l) _ n v)))
+    (decided (leb (sizeOf z) r))
 
 -- an accepted section is its rows, printed
-pub section-printed : (t : Section) (at : ℕ) (l : List ℕ) (n : ℕ) → checkOf t at l ≡ Check.Good n → l ≡ printed t (tableOf l)
-section-printed t at l n h = sym (join-pieces 10 l) ∙ lines-printed t 0 at (pieces 10 l) n (pieces-some 10 l) h
+pub section-printed : (z : Section) (at : ℕ) (l : List ℕ) (n : ℕ) → checkOf z at l ≡ Check.Good n → l ≡ printed z (tableOf l)
+section-printed z at l n h = sym (join-pieces 10 l) ∙ lines-printed z 0 at (pieces 10 l) n (pieces-some 10 l) h
 
 good-is : (m n : ℕ) → Check.Good m ≡ Check.Good n → n ≡ m
 good-is m n h = cc
 
-lines-count : (t : Section) (r at : ℕ) (ps : List (List ℕ)) (n : ℕ) → empty ps ≡ false → sectionOf t r at ps ≡ Check.Good n → n ≡ r + length (ended ps)
+lines-count : (z : Section) (r at : ℕ) (ps : List (List ℕ)) (n : ℕ) → empty ps ≡ false → sectionOf z r at ps ≡ Check.Good n → n ≡ r + length (ended ps)
 unfolding sectionOf ended
-lines-count t r at [] n g h = absurd (true-false refl g)
-lines-count t r at (l ∷ []) n g h =
-    ⊎-elim (λ p. let e = good-is r n (rw p at h) in omega arith) (λ p. neither (leb (sizeOf t) r) at n (rw p at h)) (decided (empty l))
-lines-count t r at (l ∷ m ∷ ms) n g h =
+lines-count z r at [] n g h = absurd (true-false refl g)
+lines-count z r at (l ∷ []) n g h =
+    ⊎-elim (λ p. let e = good-is r n (rw p at h) in omega arith) (λ p. neither (leb (sizeOf z) r) at n (rw p at h)) (decided (empty l))
+lines-count z r at (l ∷ m ∷ ms) n g h =
     let k = rw (and-false (empty l)) at h in
     ⊎-elim (λ q. never (Check.Rows at) n (rw q at k) refl)
-    (λ q. let e = lines-count t (r + 1) (at + length l + 1) (m ∷ ms) n refl (after-rest (lineOf t at l) _ n (rw q at k)) in omega arith)
-    (decided (leb (sizeOf t) r))
+    (λ q. let e = lines-count z (r + 1) (at + length l + 1) (m ∷ ms) n refl (after-rest (lineOf z at l) _ n (rw q at k)) in omega arith)
+    (decided (leb (sizeOf z) r))
 
 -- what an accepted section answers is the number of its rows
-pub section-rows : (t : Section) (at : ℕ) (l : List ℕ) (n : ℕ) → checkOf t at l ≡ Check.Good n → n ≡ length (rowsOf l)
-section-rows t at l n h = let e = lines-count t 0 at (pieces 10 l) n (pieces-some 10 l) h in omega arith
+pub section-rows : (z : Section) (at : ℕ) (l : List ℕ) (n : ℕ) → checkOf z at l ≡ Check.Good n → n ≡ length (rowsOf l)
+section-rows z at l n h = let e = lines-count z 0 at (pieces 10 l) n (pieces-some 10 l) h in omega arith
 
-lines-most : (t : Section) (r at : ℕ) (ps : List (List ℕ)) (n : ℕ) → empty ps ≡ false → r ≤ sizeOf t → sectionOf t r at ps ≡ Check.Good n → n ≤ sizeOf t
+lines-most : (z : Section) (r at : ℕ) (ps : List (List ℕ)) (n : ℕ) → empty ps ≡ false → r ≤ sizeOf z → sectionOf z r at ps ≡ Check.Good n → n ≤ sizeOf z
 unfolding sectionOf
-lines-most t r at [] n g b h = absurd (true-false refl g)
-lines-most t r at (l ∷ []) n g b h =
-    ⊎-elim (λ p. let e = good-is r n (rw p at h) in omega arith) (λ p. neither (leb (sizeOf t) r) at n (rw p at h)) (decided (empty l))
-lines-most t r at (l ∷ m ∷ ms) n g b h =
+lines-most z r at [] n g b h = absurd (true-false refl g)
+lines-most z r at (l ∷ []) n g b h =
+    ⊎-elim (λ p. let e = good-is r n (rw p at h) in omega arith) (λ p. neither (leb (sizeOf z) r) at n (rw p at h)) (decided (empty l))
+lines-most z r at (l ∷ m ∷ ms) n g b h =
     let k = rw (and-false (empty l)) at h in
     ⊎-elim (λ q. never (Check.Rows at) n (rw q at k) refl)
-    (λ q. lines-most t (r + 1) (at + length l + 1) (m ∷ ms) n refl (let e = leb-false (sizeOf t) r q in omega arith) (after-rest (lineOf t at l) _ n (rw q at k)))
-    (decided (leb (sizeOf t) r))
+    (λ q. lines-most z (r + 1) (at + length l + 1) (m ∷ ms) n refl (let e = leb-false (sizeOf z) r q in omega arith) (after-rest (lineOf z at l) _ n (rw q at k)))
+    (decided (leb (sizeOf z) r))
 
 -- an accepted section has no more rows than its table
-pub section-most : (t : Section) (at : ℕ) (l : List ℕ) (n : ℕ) → checkOf t at l ≡ Check.Good n → n ≤ sizeOf t
-section-most t at l n h = lines-most t 0 at (pieces 10 l) n (pieces-some 10 l) (omega arith) h
+pub section-most : (z : Section) (at : ℕ) (l : List ℕ) (n : ℕ) → checkOf z at l ≡ Check.Good n → n ≤ sizeOf z
+section-most z at l n h = lines-most z 0 at (pieces 10 l) n (pieces-some 10 l) (omega arith) h
 
 -- ---- every field of an accepted section is good
 
 -- a row has its section's fields, each of them what is asked
-pub record Sound (t : Section) (fs : List (List ℕ)) : Type 0 where
-  pub count : length fs ≡ countOf t
-  pub good : (j : ℕ) → j < length fs → goodOf (wantOf t j) (getD fs j []) ≡ true
+pub record Sound (z : Section) (fs : List (List ℕ)) : Type 0 where
+  pub count : length fs ≡ countOf z
+  pub good : (j : ℕ) → j < length fs → goodOf (wantOf z j) (getD fs j []) ≡ true
 
-fields-good : (t : Section) (j at n : ℕ) (fs : List (List ℕ)) → fieldsOf t j at fs ≡ Check.Good n → (i : ℕ) → i < length fs
-    → goodOf (wantOf t (j + i)) (getD fs i []) ≡ true
+fields-good : (z : Section) (j at n : ℕ) (fs : List (List ℕ)) → fieldsOf z j at fs ≡ Check.Good n → (i : ℕ) → i < length fs
+    → goodOf (wantOf z (j + i)) (getD fs i []) ≡ true
 unfolding fieldsOf
-fields-good t j at n [] h i k = absurd (not-suc-le-zero k)
-fields-good t j at n (f ∷ fs) h zero k =
-    ⊎-elim (λ q. rw add-zero q) (λ q. never (Check.Field at) n (rw q at h) refl) (decided (goodOf (wantOf t j) f))
-fields-good t j at n (f ∷ fs) h (suc i) k =
+fields-good z j at n [] h i k = absurd (not-suc-le-zero k)
+fields-good z j at n (f ∷ fs) h zero k =
+    ⊎-elim (λ q. rw add-zero q) (λ q. never (Check.Field at) n (rw q at h) refl) (decided (goodOf (wantOf z j) f))
+fields-good z j at n (f ∷ fs) h (suc i) k =
     ⊎-elim
-    (λ q. let e : j + suc i ≡ j + 1 + i = omega arith in rw e (fields-good t (j + 1) (at + length f + 1) n fs (rw q at h) i (le-of-suc-le-suc k)))
+    (λ q. let e : j + suc i ≡ j + 1 + i = omega arith in rw e (fields-good z (j + 1) (at + length f + 1) n fs (rw q at h) i (le-of-suc-le-suc k)))
     (λ q. never (Check.Field at) n (rw q at h) refl)
-    (decided (goodOf (wantOf t j) f))
+    (decided (goodOf (wantOf z j) f))
 
-counted : (t : Section) (ps : List (List ℕ)) → formOf t ps ≡ true → length (tail ps) ≡ countOf t
-counted t [] h = absurd (true-false h refl)
-counted t (f ∷ fs) h = rw (zero-add (length fs)) at (eqb-true (0 + length fs) (countOf t) (and-right (allSome fs) _ (and-right (only (letterOf t) f) _ h)))
+counted : (z : Section) (ps : List (List ℕ)) → formOf z ps ≡ true → length (tail ps) ≡ countOf z
+counted z [] h = absurd (true-false h refl)
+counted z (f ∷ fs) h = rw (zero-add (length fs)) at (eqb-true (0 + length fs) (countOf z) (and-right (allSome fs) _ (and-right (only (letterOf z) f) _ h)))
 
 after-first : (v w : Check) (n : ℕ) → after v w ≡ Check.Good n → (m : ℕ) × (v ≡ Check.Good m)
 after-first (Check.Good k) w n h = (k, refl)
@@ -164,33 +164,33 @@ after-first (Check.Rows k) w n h = never (Check.Rows k) n h refl
 after-first (Check.Form k) w n h = never (Check.Form k) n h refl
 after-first (Check.Field k) w n h = never (Check.Field k) n h refl
 
-line-fields : (t : Section) (at n : ℕ) (l : List ℕ) → formOf t (pieces 32 l) ≡ true → lineOf t at l ≡ Check.Good n
-    → fieldsOf t 0 (at + 2) (fieldsIn l) ≡ Check.Good n
-line-fields t at n l g h = rw g at h
+line-fields : (z : Section) (at n : ℕ) (l : List ℕ) → formOf z (pieces 32 l) ≡ true → lineOf z at l ≡ Check.Good n
+    → fieldsOf z 0 (at + 2) (fieldsIn l) ≡ Check.Good n
+line-fields z at n l g h = rw g at h
 
-line-sound : (t : Section) (at : ℕ) (l : List ℕ) (w : Check) (n : ℕ) → after (lineOf t at l) w ≡ Check.Good n → Sound t (fieldsIn l)
-line-sound t at l w n h =
-    let g = line-form t at l w n h in
-    let m = after-first (lineOf t at l) w n h in
+line-sound : (z : Section) (at : ℕ) (l : List ℕ) (w : Check) (n : ℕ) → after (lineOf z at l) w ≡ Check.Good n → Sound z (fieldsIn l)
+line-sound z at l w n h =
+    let g = line-form z at l w n h in
+    let m = after-first (lineOf z at l) w n h in
     record {
-      count = counted t (pieces 32 l) g;
-      good = λ j k. rw (zero-add j) at (fields-good t 0 (at + 2) (m .0) (fieldsIn l) (line-fields t at (m .0) l g (m .1)) j k);
+      count = counted z (pieces 32 l) g;
+      good = λ j k. rw (zero-add j) at (fields-good z 0 (at + 2) (m .0) (fieldsIn l) (line-fields z at (m .0) l g (m .1)) j k);
     }
 
-lines-sound : (t : Section) (r at : ℕ) (ps : List (List ℕ)) (n : ℕ) → sectionOf t r at ps ≡ Check.Good n → (k : ℕ) → k < length (ended ps)
-    → Sound t (getD (map fieldsIn (ended ps)) k [])
+lines-sound : (z : Section) (r at : ℕ) (ps : List (List ℕ)) (n : ℕ) → sectionOf z r at ps ≡ Check.Good n → (k : ℕ) → k < length (ended ps)
+    → Sound z (getD (map fieldsIn (ended ps)) k [])
 unfolding sectionOf ended
-lines-sound t r at [] n h k i = absurd (not-suc-le-zero i)
-lines-sound t r at (l ∷ []) n h k i = absurd (not-suc-le-zero i)
-lines-sound t r at (l ∷ m ∷ ms) n h zero i =
+lines-sound z r at [] n h k i = absurd (not-suc-le-zero i)
+lines-sound z r at (l ∷ []) n h k i = absurd (not-suc-le-zero i)
+lines-sound z r at (l ∷ m ∷ ms) n h zero i =
     let u = rw (and-false (empty l)) at h in
-    ⊎-elim (λ q. never (Check.Rows at) n (rw q at u) refl) (λ q. line-sound t at l _ n (rw q at u)) (decided (leb (sizeOf t) r))
-lines-sound t r at (l ∷ m ∷ ms) n h (suc k) i =
+    ⊎-elim (λ q. never (Check.Rows at) n (rw q at u) refl) (λ q. line-sound z at l _ n (rw q at u)) (decided (leb (sizeOf z) r))
+lines-sound z r at (l ∷ m ∷ ms) n h (suc k) i =
     let u = rw (and-false (empty l)) at h in
     ⊎-elim (λ q. never (Check.Rows at) n (rw q at u) refl)
-    (λ q. lines-sound t (r + 1) (at + length l + 1) (m ∷ ms) n (after-rest (lineOf t at l) _ n (rw q at u)) k (le-of-suc-le-suc i))
-    (decided (leb (sizeOf t) r))
+    (λ q. lines-sound z (r + 1) (at + length l + 1) (m ∷ ms) n (after-rest (lineOf z at l) _ n (rw q at u)) k (le-of-suc-le-suc i))
+    (decided (leb (sizeOf z) r))
 
 -- row k of an accepted section is sound
-pub section-sound : (t : Section) (at : ℕ) (l : List ℕ) (n : ℕ) → checkOf t at l ≡ Check.Good n → (k : ℕ) → k < length (rowsOf l) → Sound t (getD (tableOf l) k [])
-section-sound t at l n h k i = lines-sound t 0 at (pieces 10 l) n h k i
+pub section-sound : (z : Section) (at : ℕ) (l : List ℕ) (n : ℕ) → checkOf z at l ≡ Check.Good n → (k : ℕ) → k < length (rowsOf l) → Sound z (getD (tableOf l) k [])
+section-sound z at l n h k i = lines-sound z 0 at (pieces 10 l) n h k i

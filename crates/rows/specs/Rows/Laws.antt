@@ -30,37 +30,37 @@ pieces-some x (b ∷ r) = ⊎-elim (λ p. rw p) (λ p. rw p (never-none b (piece
 
 -- ---- the check from a place before the end on, after r rows
 
-module _ (t : Section) (r : ℕ) (s : List ℕ) (i e p : ℕ) (h : i < e) (k : e ≤ length s) (f : Found s i e 10 p) where
-  pub too-many : sizeOf t ≤ r → sectionOf t r i (pieces 10 (slice i e s)) ≡ Check.Rows i
+module _ (z : Section) (r : ℕ) (s : List ℕ) (i e p : ℕ) (h : i < e) (k : e ≤ length s) (f : Found s i e 10 p) where
+  pub too-many : sizeOf z ≤ r → sectionOf z r i (pieces 10 (slice i e s)) ≡ Check.Rows i
   unfolding sectionOf
   too-many g =
-      ⊎-elim (λ q. rw (f .more q, pieces-some, and-false, le-leb (sizeOf t) r g))
-      (λ q. let u : i < p = omega arith in let w : p ≤ length s = omega (arith, f .high) in rw (f .last q, slice-some s i p u w, le-leb (sizeOf t) r g))
+      ⊎-elim (λ q. rw (f .more q, pieces-some, and-false, le-leb (sizeOf z) r g))
+      (λ q. let u : i < p = omega arith in let w : p ≤ length s = omega (arith, f .high) in rw (f .last q, slice-some s i p u w, le-leb (sizeOf z) r g))
       (below-or p e)
 
-  pub unended : r < sizeOf t → e ≤ p → sectionOf t r i (pieces 10 (slice i e s)) ≡ Check.Form i
+  pub unended : r < sizeOf z → e ≤ p → sectionOf z r i (pieces 10 (slice i e s)) ≡ Check.Form i
   unfolding sectionOf
-  unended g q = let w : p ≤ length s = omega (arith, f .high) in rw (f .last q, slice-some s i p (omega arith) w, lt-leb (sizeOf t) r g)
+  unended g q = let w : p ≤ length s = omega (arith, f .high) in rw (f .last q, slice-some s i p (omega arith) w, lt-leb (sizeOf z) r g)
 
-  one-line : r < sizeOf t → p < e
-      → sectionOf t r i (pieces 10 (slice i e s)) ≡ after (lineOf t i (slice i p s)) (sectionOf t (r + 1) (p + 1) (pieces 10 (slice (p + 1) e s)))
+  one-line : r < sizeOf z → p < e
+      → sectionOf z r i (pieces 10 (slice i e s)) ≡ after (lineOf z i (slice i p s)) (sectionOf z (r + 1) (p + 1) (pieces 10 (slice (p + 1) e s)))
   unfolding sectionOf
   one-line g q =
       let w : p ≤ length s = omega (arith, f .high) in
       let v : i + length (slice i p s) + 1 ≡ p + 1 = omega (arith, length-slice i p s w, f .low) in
-      rw (f .more q, pieces-some, and-false, lt-leb (sizeOf t) r g, v)
+      rw (f .more q, pieces-some, and-false, lt-leb (sizeOf z) r g, v)
 
-  pub line-good : r < sizeOf t → p < e → (v : Check) → v ≡ lineOf t i (slice i p s) → (n : ℕ) → v ≡ Check.Good n
-      → sectionOf t r i (pieces 10 (slice i e s)) ≡ sectionOf t (r + 1) (p + 1) (pieces 10 (slice (p + 1) e s))
+  pub line-good : r < sizeOf z → p < e → (v : Check) → v ≡ lineOf z i (slice i p s) → (n : ℕ) → v ≡ Check.Good n
+      → sectionOf z r i (pieces 10 (slice i e s)) ≡ sectionOf z (r + 1) (p + 1) (pieces 10 (slice (p + 1) e s))
   line-good g q v u n w = one-line g q ∙ rw (← u, w)
 
-  pub line-refused : r < sizeOf t → p < e → (v : Check) → v ≡ lineOf t i (slice i p s) → ((w : Check) → after v w ≡ v)
-      → sectionOf t r i (pieces 10 (slice i e s)) ≡ v
+  pub line-refused : r < sizeOf z → p < e → (v : Check) → v ≡ lineOf z i (slice i p s) → ((w : Check) → after v w ≡ v)
+      → sectionOf z r i (pieces 10 (slice i e s)) ≡ v
   line-refused g q v u w = one-line g q ∙ rw (← u) (w _)
 
-pub section-end : (t : Section) (r : ℕ) (s : List ℕ) (i e : ℕ) → i ≡ e → sectionOf t r i (pieces 10 (slice i e s)) ≡ Check.Good r
+pub section-end : (z : Section) (r : ℕ) (s : List ℕ) (i e : ℕ) → i ≡ e → sectionOf z r i (pieces 10 (slice i e s)) ≡ Check.Good r
 unfolding pieces sectionOf
-section-end t r s i e q = rw (slice-none s i e q)
+section-end z r s i e q = rw (slice-none s i e q)
 
 -- ---- the rows from a place on
 

@@ -1,8 +1,11 @@
--- The trailer's turns; that its numbers rise to its own start; and that its bytes are its flag, its groups and LF. Assumes nothing.
-use mathlib.Core.Path.{_≡_}
+-- The turns of the loop over a trailer's groups; what a good trailer of k groups says, and that its numbers rise to its own start; where the
+-- sections of 01's lie. Assumes nothing.
+use mathlib.Core.Path.{_≡_, refl, sym, _∙_}
 use mathlib.Core.Bool.{true, false}
 use mathlib.Core.List.{List}
-use Prim.Native.Nat.{ℕ, suc, _+_, _-_, _≤_, _<_}
+use Prim.Native.Nat.{ℕ, zero, suc, _+_, _-_, _*_, _≤_, _<_}
+use native.Mathlib.Nat.{add-zero}
+use native.Mathlib.Numerals.{add-one}
 use native.Mathlib.Omega.{arith}
 use lib.Dec.{eqb, leb}
 use lib.ListN.{getD}
@@ -13,7 +16,7 @@ use Rattle.fields.specs.declared.Digits.{Digits}
 use Rattle.fields.specs.declared.Digits.the-variants as Digits
 use Rattle.rows.specs.declared.Section.{Section}
 use Rattle.rows.specs.declared.Section.the-variants as Section
-use Rattle.trailer.specs.Trailer.{groupOf, startAt, risingOf, flagged, trailerOf, startOf, endOf}
+use Rattle.trailer.specs.Trailer.{groups, groupOf, startAt, numberOf, risingOf, flagged, trailerBy, trailerOf, indexOf, startOf, endOf}
 
 -- ---- the loop over the groups
 
@@ -57,52 +60,80 @@ module _ (k : ℕ) (s : List ℕ) (at low end : ℕ) (h : risingOf (suc k) s at 
   unfolding risingOf
   groups-after to q = rw (← q) (and-right (leb low (startAt s at)) _ (and-right (isNumber (groupOf s at)) _ h))
 
-pub record Good (s : List ℕ) (t : ℕ) : Type 0 where
-  pub flag : flagged (getD s t 0) ≡ true
-  pub end : getD s (t + 37) 0 ≡ 10
-  pub zero-first : startAt s (t + 1) ≡ 0
-  pub groups : risingOf 6 s (t + 1) 0 t ≡ true
+-- behind group j of k that rise, counted from 0, the others rise from its number on
+groups-behind : (k j : ℕ) (s : List ℕ) (at low end : ℕ) → risingOf k s at low end ≡ true → j < k
+    → risingOf (k - (j + 1)) s (at + 6 * (j + 1)) (startAt s (at + 6 * j)) end ≡ true
+groups-behind k zero s at low end h i =
+    let q : k ≡ suc (k - 1) = omega arith in
+    rw add-zero (groups-after (k - 1) s at low end (rw q at h) (at + 6) refl)
+groups-behind k (suc j) s at low end h i =
+    let q : k - (j + 1) ≡ suc (k - (j + 1 + 1)) = omega arith in
+    let e : at + 6 * (j + 1) + 6 ≡ at + 6 * (j + 1 + 1) = omega arith in
+    let g = rw q at (groups-behind k j s at low end h (omega arith)) in
+    rw (← add-one j) (groups-after (k - (j + 1 + 1)) s (at + 6 * (j + 1)) _ end g (at + 6 * (j + 1 + 1)) e)
 
-pub good : (s : List ℕ) (t : ℕ) → trailerOf s t ≡ true → Good s t
-unfolding trailerOf
-good s t h =
-    let g = and-right (flagged (getD s t 0)) _ h in
-    let f = and-right (eqb (getD s (t + 37) 0) 10) _ g in
-    record {
-      flag = and-left _ _ h;
-      end = eqb-true (getD s (t + 37) 0) 10 (and-left _ _ g);
-      zero-first = eqb-true (startAt s (t + 1)) 0 (and-left _ _ f);
-      groups = and-right (eqb (startAt s (t + 1)) 0) _ f;
-    }
-
-pub record Rising (s : List ℕ) (t : ℕ) : Type 0 where
-  pub br : startAt s (t + 1) ≤ startAt s (t + 7)
-  pub rg : startAt s (t + 7) ≤ startAt s (t + 13)
-  pub gl : startAt s (t + 13) ≤ startAt s (t + 19)
-  pub ly : startAt s (t + 19) ≤ startAt s (t + 25)
-  pub yt : startAt s (t + 25) ≤ startAt s (t + 31)
-  pub last : startAt s (t + 31) ≡ t
-
-last-is : (s : List ℕ) (at low end : ℕ) → risingOf 0 s at low end ≡ true → low ≡ end
+-- the number that groups rise from is at most the last
+low-at-most-end : (k : ℕ) (s : List ℕ) (at low end : ℕ) → risingOf k s at low end ≡ true → low ≤ end
 unfolding risingOf
-last-is s at low end h = eqb-true low end h
+low-at-most-end zero s at low end h = let e = eqb-true low end h in omega arith
+low-at-most-end (suc k) s at low end h =
+    let g = first-group k s at low end h .rises in
+    let r = low-at-most-end k s (at + 6) (startAt s at) end (groups-after k s at low end h (at + 6) refl) in
+    omega arith
 
-pub rising : (s : List ℕ) (t : ℕ) → Good s t → Rising s t
-rising s t w =
-    let g₁ = groups-after 5 s (t + 1) _ t (w .groups) (t + 7) (omega arith) in
-    let g₂ = groups-after 4 s (t + 7) _ t g₁ (t + 13) (omega arith) in
-    let g₃ = groups-after 3 s (t + 13) _ t g₂ (t + 19) (omega arith) in
-    let g₄ = groups-after 2 s (t + 19) _ t g₃ (t + 25) (omega arith) in
-    let g₅ = groups-after 1 s (t + 25) _ t g₄ (t + 31) (omega arith) in
-    let g₆ = groups-after 0 s (t + 31) _ t g₅ (t + 37) (omega arith) in
+-- what stands behind the flag of a good trailer of k groups
+pub record GoodTrailer (k : ℕ) (s : List ℕ) (t : ℕ) : Type 0 where
+  pub end : getD s (t + 1 + 6 * k) 0 ≡ 10
+  pub zero-first : numberOf s t 0 ≡ 0
+  pub groups-rise : risingOf k s (t + 1) 0 t ≡ true
+
+pub behind-flag : (k : ℕ) (s : List ℕ) (t : ℕ) → trailerBy k s t ≡ true → GoodTrailer k s t
+behind-flag k s t h =
+    let f = and-right (eqb (getD s (t + 1 + 6 * k) 0) 10) _ h in
     record {
-      br = first-group 4 s (t + 7) _ t g₁ .rises;
-      rg = first-group 3 s (t + 13) _ t g₂ .rises;
-      gl = first-group 2 s (t + 19) _ t g₃ .rises;
-      ly = first-group 1 s (t + 25) _ t g₄ .rises;
-      yt = first-group 0 s (t + 31) _ t g₅ .rises;
-      last = last-is s (t + 37) _ t g₆;
+      end = eqb-true (getD s (t + 1 + 6 * k) 0) 10 (and-left _ _ h);
+      zero-first = eqb-true (numberOf s t 0) 0 (and-left _ _ f);
+      groups-rise = and-right (eqb (numberOf s t 0) 0) _ f;
     }
+
+-- the numbers of its groups never fall, none is above the trailer's start, and the last is it
+pub record Rising (k : ℕ) (s : List ℕ) (t : ℕ) : Type 0 where
+  pub never-fall : (j : ℕ) → j + 1 < k → numberOf s t j ≤ numberOf s t (j + 1)
+  pub inside : (j : ℕ) → j < k → numberOf s t j ≤ t
+  pub last : (j : ℕ) → j + 1 ≡ k → numberOf s t j ≡ t
+
+-- where no group is left, the number that they rose to is the last
+none-left : (k : ℕ) (s : List ℕ) (at low end : ℕ) → k ≡ 0 → risingOf k s at low end ≡ true → low ≡ end
+none-left k s at low end q h = eqb-true low end (sym (rising-end k s at low end (omega arith)) ∙ h)
+
+pub rising : (k : ℕ) (s : List ℕ) (t : ℕ) → GoodTrailer k s t → Rising k s t
+rising k s t w = record {
+  never-fall = λ j h. let q : k - (j + 1) ≡ suc (k - (j + 2)) = omega arith in first-group (k - (j + 2)) s _ _ t (rw q at (from j (omega arith))) .rises;
+  inside = λ j h. low-at-most-end _ s _ _ t (from j h);
+  last = λ j h. none-left _ s _ _ t (omega arith) (from j (omega arith));
+}
+  where
+    from : (j : ℕ) → j < k → risingOf (k - (j + 1)) s (t + 1 + 6 * (j + 1)) (numberOf s t j) t ≡ true
+    from j h = groups-behind k j s (t + 1) 0 t (w .groups-rise) h
+
+-- ---- 01's trailer
+
+module _ (s : List ℕ) (t : ℕ) (h : trailerOf s t ≡ true) where
+  pub flag-good : flagged (getD s t 0) ≡ true
+  unfolding trailerOf
+  flag-good = and-left _ _ h
+
+  pub good-trailer : GoodTrailer groups s t
+  unfolding trailerOf
+  good-trailer = behind-flag groups s t (and-right (flagged (getD s t 0)) _ h)
+
+-- a section's group is not the last
+index-below : (z : Section) → indexOf z + 1 < groups
+index-below Section.B = omega arith
+index-below Section.R = omega arith
+index-below Section.G = omega arith
+index-below Section.L = omega arith
+index-below Section.Y = omega arith
 
 -- where each section lies
 pub record Within (a e n : ℕ) : Type 0 where
@@ -110,11 +141,6 @@ pub record Within (a e n : ℕ) : Type 0 where
   pub inside : e ≤ n
 
 pub within : (s : List ℕ) (t : ℕ) → trailerOf s t ≡ true → (z : Section) → Within (startOf z s t) (endOf z s t) t
-within s t h z = let w = rising s t (good s t h) in parts w z
-  where
-    parts : Rising s t → (z : Section) → Within (startOf z s t) (endOf z s t) t
-    parts w Section.B = record { ordered = w .br; inside = omega (arith, w .rg, w .gl, w .ly, w .yt, w .last) }
-    parts w Section.R = record { ordered = w .rg; inside = omega (arith, w .gl, w .ly, w .yt, w .last) }
-    parts w Section.G = record { ordered = w .gl; inside = omega (arith, w .ly, w .yt, w .last) }
-    parts w Section.L = record { ordered = w .ly; inside = omega (arith, w .yt, w .last) }
-    parts w Section.Y = record { ordered = w .yt; inside = omega (arith, w .last) }
+within s t h z =
+    let w = rising groups s t (good-trailer s t h) in
+    record { ordered = w .never-fall (indexOf z) (index-below z); inside = w .inside (indexOf z + 1) (index-below z) }
