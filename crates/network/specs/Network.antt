@@ -134,6 +134,13 @@ pub record RoomTriplets (n : ℕ) (t : Triplets) : Type 0 where
   pub re : n ≤ length (t .re)
   pub im : n ≤ length (t .im)
 
+pub record RoomFor (r : Rows) (t : Network) : Type 0 where
+  pub buses : RoomBuses (r .buses) (t .buses)
+  pub slacks : RoomSlacks (r .slacks) (t .slacks)
+  pub generators : RoomGenerators (r .generators) (t .generators)
+  pub branches : RoomBranches (r .branches) (t .branches)
+  pub triplets : RoomTriplets (r .triplets) (t .triplets)
+
 -- each table's rows are at most as many as another count says
 pub record AtMost (r m : Rows) : Type 0 where
   pub buses : r .buses ≤ m .buses

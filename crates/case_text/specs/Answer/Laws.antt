@@ -6,7 +6,7 @@ use mathlib.Core.List.{List}
 use Prim.Native.Nat.{ℕ, _≤_}
 use native.Mathlib.Omega.{arith}
 use lib.ListN.{length}
-use lib.Seq.{slice}
+use lib.Seq.{slice, length-sets}
 use Rattle.real.specs.Tests.{decided, no-case}
 use Rattle.real.specs.Paper.{Paper, given, refused, onGiven}
 use Rattle.network.specs.declared.Rows.{Rows}
@@ -125,6 +125,11 @@ filledBy s p old =
 filled-at : (s : List ℕ) (t : ℕ) (old : Network) → filledOf s t old ≡ filledBy s (placesOf s t) old
 unfolding filledOf bytesOf
 filled-at s t old = refl
+
+-- reading keeps the length of every column
+pub filled-room : (s : List ℕ) (t : ℕ) (old : Network) → roomOf (filledOf s t old) ≡ roomOf old
+unfolding filledOf
+filled-room s t old = simp length-sets
 
 -- ---- the answer
 

@@ -9,7 +9,7 @@ use lib.ListN.{length, take}
 use lib.Seq.{length-take-le}
 use Rattle.real.specs.Tests.{both, both-l, both-r}
 use Rattle.network.specs.declared.Rows.{Rows}
-use Rattle.network.specs.Network.{Buses, Slacks, Generators, Branches, Triplets, busesRoom, slacksRoom, generatorsRoom, branchesRoom, tripletsRoom, RoomBuses, RoomSlacks, RoomGenerators, RoomBranches, RoomTriplets, AtMost, fitsOf}
+use Rattle.network.specs.Network.{Buses, Slacks, Generators, Branches, Triplets, Network, roomOf, busesRoom, slacksRoom, generatorsRoom, branchesRoom, tripletsRoom, RoomBuses, RoomSlacks, RoomGenerators, RoomBranches, RoomTriplets, RoomFor, AtMost, fitsOf}
 
 -- ---- at most the shortest column is at most each
 
@@ -40,6 +40,16 @@ room-branches n t h = let u = under2 n _ _ h in record { from = u .0; to = u .1 
 
 pub room-triplets : (n : ℕ) (t : Triplets) → n ≤ tripletsRoom t → RoomTriplets n t
 room-triplets n t h = let u = under4 n _ _ _ _ h in record { row = u .0 .0; col = u .0 .1; re = u .1 .0; im = u .1 .1 }
+
+pub room-for : (r : Rows) (t : Network) → AtMost r (roomOf t) → RoomFor r t
+room-for r t h =
+    record {
+      buses = room-buses _ (t .buses) (h .buses);
+      slacks = room-slacks _ (t .slacks) (h .slacks);
+      generators = room-generators _ (t .generators) (h .generators);
+      branches = room-branches _ (t .branches) (h .branches);
+      triplets = room-triplets _ (t .triplets) (h .triplets);
+    }
 
 -- ---- the test of rows against room
 
