@@ -48,13 +48,16 @@ fn solve_rows(
     w: &mut [f64],
 ) -> Outcome
     ghost { Network × Outs × List Float }
-    requires { λ α. ⌜ (networkOf
-        (busesOf (now kind) (now «vm_set») (now pd) (now qd) (now pg) (now qg) (now «vm_case») (now «va_case»))
-        (slacksOf (now slacks) (now «va_slacks»))
-        (generatorsOf (now «gen_bus») (now qmin) (now qmax))
-        (branchesOf (now «br_from») (now «br_to»))
-        (tripletsOf (now «y_row») (now «y_col») (now «y_re») (now «y_im»)),
-        outs (now vm) (now va) (now p) (now q) (now kinds), now w) ≡ α ⌝ }
+    requires { λ α. ⌜ (
+      networkOf
+          (busesOf (now kind) (now «vm_set») (now pd) (now qd) (now pg) (now qg) (now «vm_case») (now «va_case»))
+          (slacksOf (now slacks) (now «va_slacks»))
+          (generatorsOf (now «gen_bus») (now qmin) (now qmax))
+          (branchesOf (now «br_from») (now «br_to»))
+          (tripletsOf (now «y_row») (now «y_col») (now «y_re») (now «y_im»)),
+      outs (now vm) (now va) (now p) (now q) (now kinds),
+      now w,
+    ) ≡ α ⌝ }
     requires { λ (t, o, space). ⌜ RoomFor rows t ⌝ }
     ensures { λ (t, o, space) r. ⌜ answer (paperOf r) (outs (now (vm .exit)) (now (va .exit)) (now (p .exit)) (now (q .exit)) (now (kinds .exit)))
         (now (w .exit)) ≡ solveOf start (firstRows rows t) o space ⌝ }

@@ -8,11 +8,13 @@ use lib.ListN.{length}
 use lib.Ieee.{Float, isNan, neg, ofInt, ofBits, toBits}
 use Rattle.real.specs.Tests.{both}
 use Rattle.real.specs.Literals.{double}
-use Rattle.case_text.proofs.Examples.{listing, listing-tables, listing-columns, listing-read}
+use Rattle.network.specs.Network.{roomOf, fitsOf, firstRows}
+use Rattle.case_text.proofs.Examples.{listing, listing-contents, listing-tables, listing-read}
 use Rattle.tables.specs.Tables.{ok, placesIn, roomy, zeros}
 use Rattle.tables.proofs.Examples as Solved
 use Rattle.lines.specs.Lines.{decimalBy, realOf, okOf, busOf, busesOf}
-use Rattle.report.specs.Report.{networkOf, blank, blanks, printedOf, answeredOf, readingOf, solvedOf, reportOf}
+use Rattle.answer.specs.TextAnswer.{blank, afterReading, textAnswerOf}
+use Rattle.report.specs.Report.{blanks, printedOf, reported, reportOf}
 
 -- `ok 0 0000000000000000`
 abbrev pub first-line : List ℕ
@@ -25,7 +27,7 @@ second-line =
     48 ∷ 32 ∷ 83 ∷ 32 ∷ 51 ∷ 102 ∷ 102 ∷ 48 ∷ 48 ∷ 48 ∷ 48 ∷ 48 ∷ 48 ∷ 48 ∷ 48 ∷ 48 ∷ 48 ∷ 48 ∷ 48 ∷ 48 ∷ 32 ∷ 48 ∷ 48 ∷ 48 ∷ 48 ∷ 48 ∷ 48 ∷ 48 ∷ 48 ∷ 48 ∷ 48 ∷ 48 ∷ 48 ∷ 48 ∷ 48 ∷ 48 ∷ 48 ∷ 32 ∷ 52 ∷ 48 ∷ 48 ∷ 48 ∷ 48 ∷ 48 ∷ 48 ∷ 48 ∷ 48 ∷ 48 ∷ 48 ∷ 48 ∷ 48 ∷ 48 ∷ 48 ∷ 48 ∷ 32 ∷ 52 ∷ 48 ∷ 50 ∷ 48 ∷ 48 ∷ 48 ∷ 48 ∷ 48 ∷ 48 ∷ 48 ∷ 48 ∷ 48 ∷ 48 ∷ 48 ∷ 48 ∷ 48 ∷ 10 ∷ []
 
 -- the tables that the reader gives are those that the solve is computed on
-same-network : networkOf listing-tables (listing-columns blank) ≡ Solved.listing
+same-network : firstRows (listing-contents .rows) (listing-tables blank) ≡ Solved.listing
 unfolding ofInt ofBits neg
 same-network = refl
 
@@ -33,13 +35,17 @@ same-lines : printedOf 1 (ok 0 (double 0)) (Solved.row blanks) ≡ first-line ++
 unfolding okOf busesOf busOf decimalBy realOf isNan toBits ofInt ofBits
 same-lines = refl
 
-room : (w : List Float) → leb 6144 (length w) ≡ true → roomy Solved.listing (placesIn blanks w) ≡ true
+room : (w : List Float) → leb 6144 (length w) ≡ true → roomy 1 (placesIn blanks) (length w) ≡ true
 unfolding roomy both
 room w h = h
 
+rows-fit : fitsOf (listing-contents .rows) (roomOf blank) ≡ true
+unfolding both
+rows-fit = refl
+
 -- whatever stood in the workspace
 pub listing-reported : (w : List Float) → leb 6144 (length w) ≡ true → reportOf listing w ≡ record { bytes = first-line ++ second-line; space = zeros w }
-unfolding reportOf solvedOf
+unfolding reportOf textAnswerOf
 listing-reported w h =
-    ap (λ r. readingOf r w) (listing-read blank refl)
-    ∙ rw same-network (ap (answeredOf 1) (Solved.listing-solved blanks w (room w h)) ∙ rw same-lines refl)
+    ap (λ r. reported (afterReading r blanks w)) (listing-read blank rows-fit)
+    ∙ rw (same-network, Solved.listing-solved blanks w (room w h)) (rw same-lines refl)

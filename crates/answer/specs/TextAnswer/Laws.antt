@@ -1,2 +1,92 @@
--- Each way to the answer of a text. Assumes nothing.
-use Prim.Native.Nat.{ℕ}
+-- Refusals 7 and 9 are not met by a text, and withheld figures don't show in its answer. Assumes nothing.
+use Prim.Native.Nat.{ℕ, _≤_}
+use mathlib.Core.Path.{_≡_, refl, ap, _∙_}
+use mathlib.Core.List.{List, []}
+use mathlib.Core.Bool.{Bool, true, false, cond}
+use lib.ListN.{length}
+use lib.Ieee.{Float}
+use Rattle.real.specs.Paper.{Paper, given, refused, onGiven}
+use Rattle.network.specs.declared.Rows.{Rows}
+use Rattle.network.specs.Network.{Network, busCount, AtMost, roomOf, fitsOf, firstRows}
+use Rattle.network.specs.Network.Laws.{at-most-fits}
+use Rattle.network.specs.Checks.{sizes, counted, numbered}
+use Rattle.network.specs.Checks.Laws.{first-counted, first-buses}
+use Rattle.trailer.specs.Trailer.{trailerStart}
+use Rattle.case_text.specs.declared.Contents.{Contents}
+use Rattle.case_text.specs.declared.Reading.{Reading}
+use Rattle.case_text.specs.declared.Reading.the-variants as Reading
+use Rattle.case_text.specs.Text.{textOf}
+use Rattle.case_text.specs.Text.Laws.{Accepted, Where, text-sound, never-room}
+use Rattle.case_text.specs.Answer as Reader
+use Rattle.case_text.specs.Answer.{withRoom, judgedOf, filledOf, outcomeOf, readOf}
+use Rattle.case_text.specs.Answer.Laws.{rows-most, filled-room}
+use Rattle.starts.specs.declared.AcStart.{AcStart}
+use Rattle.pf_ac.specs.WithStart.Withheld.{Alike}
+use Rattle.tables.specs.declared.Checked.the-variants as Checked
+use Rattle.tables.specs.Tables.{Outs, placesIn, roomy, checkedOf, runOf, Answer, answer, afterRun, afterCheck, solveOf}
+use Rattle.tables.specs.Tables.Withheld.{solve-withheld}
+use Rattle.answer.specs.TextAnswer.{blank, TextAnswer, textAnswer, unread, afterReading, textAnswerOf}
+
+-- ---- refusals 7 and 9
+
+-- the rows of a good text fit columns of full size
+blank-holds : (r : Rows) → AtMost r sizes → AtMost r (roomOf blank)
+blank-holds r h = h
+
+pub reader-never-9 : (s : List ℕ) → judgedOf s (roomOf blank) ≡ textOf s
+reader-never-9 s = go (textOf s) (Reader.paperOf (textOf s)) refl (text-sound s)
+  where
+    go : (v : Reading) (p : Paper Contents) → Reader.paperOf v ≡ p → Where (Accepted s (trailerStart s)) p → withRoom v (roomOf blank) ≡ v
+    go v (given c) e a =
+        let fits : fitsOf (c .rows) (roomOf blank) ≡ true = at-most-fits (c .rows) (roomOf blank) (blank-holds (c .rows) (rows-most s _ c a)) in
+        rw (e, fits)
+    go v (refused number values) e a = rw e
+
+-- what is left of the solve once 7 and 9 are out: 8, or the run
+abbrev pub solvedOr8 : AcStart → Network → Outs → List Float → Answer
+solvedOr8 start t o w = cond (numbered t) (afterRun t o (runOf start t w)) (answer (refused 8 []) o w)
+
+pub solve-never-7-9 : (start : AcStart) (t : Network) (o : Outs) (w : List Float) → counted t ≡ true → roomy (busCount t) (placesIn o) (length w) ≡ true
+    → solveOf start t o w ≡ solvedOr8 start t o w
+unfolding solveOf checkedOf
+solve-never-7-9 start t o w h k = rw (h, k) (go (numbered t))
+  where
+    go : (b : Bool) → afterCheck start t o w (cond b Checked.Ready Checked.Bus) ≡ cond b (afterRun t o (runOf start t w)) (answer (refused 8 []) o w)
+    go true = refl
+    go false = refl
+
+abbrev told : ℕ → Answer → TextAnswer
+told n a = textAnswer n (a .paper) (a .columns) (a .space)
+
+-- the answer of a text: its refusal, or that of its tables, which is refused 8, refused 10 or solved
+abbrev pub textGives : List ℕ → Outs → List Float → Reading → TextAnswer
+textGives s o w v =
+    onGiven (Reader.paperOf v) (λ c. told (c .rows .buses) (solvedOr8 (c .start) (firstRows (c .rows) (filledOf s (trailerStart s) blank)) o w))
+    (textAnswer 0 (unread (Reader.paperOf v)) o w)
+
+-- of the first rows of tables that have room for them
+rows-never-7-9 : (start : AcStart) (r : Rows) (t : Network) (o : Outs) (w : List Float) → AtMost r sizes → AtMost r (roomOf t)
+    → ((n : ℕ) → n ≤ 32 → roomy n (placesIn o) (length w) ≡ true) → solveOf start (firstRows r t) o w ≡ solvedOr8 start (firstRows r t) o w
+rows-never-7-9 start r t o w few fits room =
+    solve-never-7-9 start (firstRows r t) o w (first-counted r t few fits) (rw (first-buses r t fits) (room (r .buses) (few .buses)))
+
+pub answer-never-7-9 : (s : List ℕ) (o : Outs) (w : List Float) → ((n : ℕ) → n ≤ 32 → roomy n (placesIn o) (length w) ≡ true)
+    → (textAnswerOf s o w ≡ textGives s o w (textOf s)) × (textOf s ≡ Reading.Room → ⊥)
+unfolding textAnswerOf readOf
+answer-never-7-9 s o w room = (rw (reader-never-9 s) (go (textOf s) (Reader.paperOf (textOf s)) refl (text-sound s)), never-room s)
+  where
+    fits : (r : Rows) → AtMost r sizes → AtMost r (roomOf (filledOf s (trailerStart s) blank))
+    fits r few = rw (filled-room s (trailerStart s) blank) (blank-holds r few)
+
+    go : (v : Reading) (p : Paper Contents) → Reader.paperOf v ≡ p → Where (Accepted s (trailerStart s)) p → afterReading (outcomeOf s v blank) o w ≡ textGives s o w v
+    go v (given c) e a =
+        let few = rows-most s _ c a in
+        rw e (ap (told (c .rows .buses)) (rows-never-7-9 (c .start) (c .rows) (filledOf s (trailerStart s) blank) o w few (fits (c .rows) few) room))
+    go v (refused number values) e a = rw e
+
+-- ---- demand 3
+
+-- tables that differ only in 01's withheld columns are answered alike
+pub answer-withheld : (c : Contents) (read read′ : Network) (o : Outs) (w : List Float) → Alike (c .start) (firstRows (c .rows) read) (firstRows (c .rows) read′)
+    → afterReading (Reader.outcome (given c) read) o w ≡ afterReading (Reader.outcome (given c) read′) o w
+answer-withheld c read read′ o w a = ap (told (c .rows .buses)) (solve-withheld (c .start) _ _ a o w)
