@@ -17,7 +17,7 @@ use Rattle.islands.specs.Islands.{Ends}
 use Rattle.starts.specs.declared.References.{References}
 use Rattle.starts.specs.References.{referencesOf}
 use Rattle.starts.specs.Starts.{flatOf}
-use Rattle.injections.specs.Injections.{Ybus, ybus, Good}
+use Rattle.injections.specs.Injections.{Ybus, ybus, GoodTriplets}
 use Rattle.qlim.specs.Rounds.{Study, study}
 use Rattle.starts.specs.declared.AcStart.{AcStart}
 use Rattle.pf_ac.specs.Search.{Searched, firstOf, searchOf}
@@ -93,7 +93,7 @@ pub record Ready (t : Network) : Type 0 where
   pub slacks-below : Below (buses t) (t .slacks)
   pub gens-below : Below (buses t) (t .gen-bus)
   pub ends : Ends (buses t) (t .br-from) (t .br-to)
-  pub triplets : Good (buses t) (tripletsOf t)
+  pub triplets : GoodTriplets (buses t) (tripletsOf t)
 
 -- ---- what the solve works on
 

@@ -9,7 +9,7 @@ ghost use lib.ListN.{length, getD};
 ghost use mathlib.Core.List.{List};
 ghost use lib.Ieee.{Float, nan};
 ghost use Rattle.layout.specs.Table.{stores};
-ghost use Rattle.injections.specs.Injections.{Ybus, ybus, Good};
+ghost use Rattle.injections.specs.Injections.{Ybus, ybus, GoodTriplets};
 ghost use Rattle.pf_ac.specs.Network.{Network, network, Ready};
 ghost use Rattle.tables.specs.Tables.{same3, same7, countedBy, roomyBy, numberedBy, Outs, outs, Places, places, checkedOf, writtenOf, written, writeOf, zeros, ran, runOf, paperOf, answer, solveOf};
 
@@ -146,7 +146,7 @@ fn write_answer(
     q: &mut [f64],
     kinds: &mut [u8],
 )
-    requires { ⌜ Good n (ybus (now «y_row») (now «y_col») (now «y_re») (now «y_im»)) × (n ≤ length (now vm)) × (n ≤ length (now va)) × (n ≤ length (now p)) × (n ≤ length (now q)) × (n ≤ length (now kinds)) ⌝ }
+    requires { ⌜ GoodTriplets n (ybus (now «y_row») (now «y_col») (now «y_re») (now «y_im»)) × (n ≤ length (now vm)) × (n ≤ length (now va)) × (n ≤ length (now p)) × (n ≤ length (now q)) × (n ≤ length (now kinds)) ⌝ }
     ensures { λ _. ⌜ (outs (now (vm .exit)) (now (va .exit)) (now (p .exit)) (now (q .exit)) (now (kinds .exit))) ≡ writtenOf n (ybus (now («y_row» .entry)) (now («y_col» .entry)) (now («y_re» .entry)) (now («y_im» .entry))) best (outs (now (vm .entry)) (now (va .entry)) (now (p .entry)) (now (q .entry)) (now (kinds .entry))) ⌝ }
 {
     let ended = best.ended;
@@ -190,7 +190,7 @@ fn write(
     kinds: &mut [u8],
 ) -> Outcome
     ghost { Ybus × Outs }
-    requires { λ α. ⌜ (ybus (now «y_row») (now «y_col») (now «y_re») (now «y_im»), outs (now vm) (now va) (now p) (now q) (now kinds)) ≡ α ⌝ ∗ ⌜ Good n (α .0) × Places n (α .1) ⌝ }
+    requires { λ α. ⌜ (ybus (now «y_row») (now «y_col») (now «y_re») (now «y_im»), outs (now vm) (now va) (now p) (now q) (now kinds)) ≡ α ⌝ ∗ ⌜ GoodTriplets n (α .0) × Places n (α .1) ⌝ }
     ensures { λ (y, o) out. ⌜ written (paperOf out) (outs (now (vm .exit)) (now (va .exit)) (now (p .exit)) (now (q .exit)) (now (kinds .exit))) ≡ writeOf n y (r .found) (r .best) o ⌝ }
 {
     let found = r.found;

@@ -9,13 +9,12 @@ use Rattle.layout.specs.declared.Point.{Point}
 use Rattle.layout.specs.Limits.{limitsOf}
 use Rattle.starts.specs.declared.References.{References}
 use Rattle.starts.specs.Starts.{flatOf}
-use Rattle.qlim.specs.Rounds.{study}
-use Rattle.qlim.specs.Rounds as Rounds
+use Rattle.qlim.specs.Rounds.{study, GoodStudy}
 use Rattle.pf_ac.specs.Search.{Searched, firstOf, searchOf}
 use Rattle.pf_ac.specs.Network.{Network, buses, tripletsOf, Ready, columnOf, kindsFor, referencesFor, acPfOf}
 
 pub study-ready : (t : Network) → Ready t → (qg : List Float) (l : Limits) (hold : List Float)
-    → Rounds.Ready (study (buses t) (tripletsOf t) (t .pd) (t .qd) (t .pg) qg l hold)
+    → GoodStudy (study (buses t) (tripletsOf t) (t .pd) (t .qd) (t .pg) qg l hold)
 study-ready t r qg l hold =
     let a = r .pd-size in
     let b = r .qd-size in
