@@ -87,7 +87,7 @@ movesIn s kinds t e =
 abbrev pub given : Study → List BusKind → Track → Run → Float → Done
 given s kinds t r res = done (settleOf (s .n) kinds (t .qsched) (endedOf r) res) (spaceAfter r)
 
--- "a residual >= 1e-8 ends them; NaN does not", and so does a round after which no bus moves; else `after` is what follows the moves
+-- "a residual >= 1e-8 ends them; NaN does not". A round after which no bus moves ends them too; else `after` is what follows the moves
 unfoldable pub roundOf : Study → List BusKind → Track → Run → Done → Done
 roundOf s kinds t r after =
     let end = given s kinds t r (endedOf r .residual) in
