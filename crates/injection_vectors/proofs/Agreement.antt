@@ -15,7 +15,7 @@ use Rattle.layout.specs.Table.{stores, Below, allBelow}
 use Rattle.layout.specs.Table.Laws.{stores-length, stores-at, all-below, below-all}
 use Rattle.injections.specs.declared.Column.{Column}
 use Rattle.injections.specs.declared.Injections.{Injections}
-use Rattle.injections.specs.Injections.{ybus, Good}
+use Rattle.injections.specs.Injections.{ybus, GoodTriplets}
 use Rattle.injection_vectors.specs.Told.{wordsTold, doublesTold, ybusTold, Zeros, Holds, jacobianAt, Entries}
 
 -- whether all numbers of a list are below n, told of one that is equal
@@ -42,7 +42,7 @@ module _ (s : List ℕ) (m : ℕ) where
   unfolding ybusTold
   ybus-parts row col re im a b c d = rw (a, b, c, d)
 
-  pub good : (n : ℕ) → n ≤ 32 → Below n (ybusTold s m .row) → Below n (ybusTold s m .col) → Good n (ybusTold s m)
+  pub good : (n : ℕ) → n ≤ 32 → Below n (ybusTold s m .row) → Below n (ybusTold s m .col) → GoodTriplets n (ybusTold s m)
   unfolding ybusTold
   good n few rows cols =
       record {

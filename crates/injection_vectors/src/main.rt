@@ -3,7 +3,7 @@
 ghost use mathlib.Core.Path.{_≡_};
 ghost use Prim.Native.Nat.{_+_, _*_, _≤_, _<_};
 ghost use lib.ListN.{length, replicate};
-ghost use Rattle.injections.specs.Injections.{ybus, Good};
+ghost use Rattle.injections.specs.Injections.{ybus, GoodTriplets};
 ghost use Rattle.real.specs.Literals.{nought};
 ghost use Rattle.vectors.specs.Words.{wordOf, Tells, Found};
 ghost use Rattle.injection_vectors.specs.Told.{wordsTold, doublesTold, tableTold, columnsTold, columnTold, layoutTold, injectionsTold, ybusTold, placeTold, Holds, Fits, injectionsAt, jacobianAt, Entries, Agrees};
@@ -158,7 +158,7 @@ fn injections_agree(
     re: &[f64],
     im: &[f64],
 ) -> bool
-    requires { ⌜ Fits (now s) n m dim × (ybus (now row) (now col) (now re) (now im) ≡ ybusTold (now s) m) × Good n (ybusTold (now s) m) ⌝ }
+    requires { ⌜ Fits (now s) n m dim × (ybus (now row) (now col) (now re) (now im) ≡ ybusTold (now s) m) × GoodTriplets n (ybusTold (now s) m) ⌝ }
     ensures { λ r. ⌜ Tells r (injectionsAt (now (s .entry)) n m ≡ injectionsTold (now (s .entry)) (m * 32 + n * 48) n) ⌝ }
 {
     let vm = doubles(s, m * 32, n);
@@ -178,7 +178,7 @@ fn jacobian_at(
     re: &[f64],
     im: &[f64],
 )
-    requires { ⌜ (4160 ≤ length (now w)) × Fits (now s) n m dim × (ybus (now row) (now col) (now re) (now im) ≡ ybusTold (now s) m) × Good n (ybusTold (now s) m) ⌝ }
+    requires { ⌜ (4160 ≤ length (now w)) × Fits (now s) n m dim × (ybus (now row) (now col) (now re) (now im) ≡ ybusTold (now s) m) × GoodTriplets n (ybusTold (now s) m) ⌝ }
     ensures { λ _. ⌜ now (w .exit) ≡ jacobianAt (now (s .entry)) n m dim (now (w .entry)) ⌝ }
 {
     let vm = doubles(s, m * 32, n);
@@ -198,7 +198,7 @@ fn jacobian_agrees(
     re: &[f64],
     im: &[f64],
 ) -> bool
-    requires { ⌜ Fits (now s) n m dim × (ybus (now row) (now col) (now re) (now im) ≡ ybusTold (now s) m) × Good n (ybusTold (now s) m) ⌝ }
+    requires { ⌜ Fits (now s) n m dim × (ybus (now row) (now col) (now re) (now im) ≡ ybusTold (now s) m) × GoodTriplets n (ybusTold (now s) m) ⌝ }
     ensures { λ r. ⌜ Tells r (Entries (now (s .entry)) n m dim) ⌝ }
 {
     let mut space = [0.0; 4224];

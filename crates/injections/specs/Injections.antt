@@ -23,7 +23,7 @@ abbrev pub ybus : List ℕ → List ℕ → List Float → List Float → Ybus
 ybus row col re im = tripletsOf row col re im
 
 -- what the checks of the solve leave: at most 32 buses, columns of one length, bus numbers below the bus count
-pub record Good (n : ℕ) (y : Ybus) : Type 0 where
+pub record GoodTriplets (n : ℕ) (y : Ybus) : Type 0 where
   pub few : n ≤ 32
   pub cols : length (y .col) ≡ length (y .row)
   pub res : length (y .re) ≡ length (y .row)
@@ -49,15 +49,15 @@ abbrev pub stored : Column → ℕ → Complex → Column
 stored c b x = record { re = set (c .re) b (x .re); im = set (c .im) b (x .im) }
 
 -- f b at each bus b below n
-abbrev pub columnOf : ℕ → (ℕ → Complex) → Column
-columnOf n f = record { re = table n nought (λ b. f b .re); im = table n nought (λ b. f b .im) }
+abbrev pub complexColumn : ℕ → (ℕ → Complex) → Column
+complexColumn n f = record { re = table n nought (λ b. f b .re); im = table n nought (λ b. f b .im) }
 
 -- the voltage of bus b, a polar number of its magnitude and angle
 abbrev pub voltageAt : List Float → List Float → ℕ → Complex
 voltageAt vm va b = polarOf (getD vm b nan) (getD va b nan)
 
 unfoldable pub voltagesOf : ℕ → List Float → List Float → Column
-voltagesOf n vm va = columnOf n (voltageAt vm va)
+voltagesOf n vm va = complexColumn n (voltageAt vm va)
 
 -- "Currents are summed from zero in triplet order": after the first k triplets, y v of the triplet's column added at its row
 unfoldable pub currentsTo : ℕ → Ybus → Column → Column

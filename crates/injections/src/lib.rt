@@ -3,7 +3,7 @@ ghost use mathlib.Core.Path.{_≡_};
 ghost use Prim.Native.Nat.{_<_, _≤_};
 ghost use lib.ListN.{length, getD};
 ghost use Rattle.layout.specs.Table.{Below};
-ghost use Rattle.injections.specs.Injections.{ybus, Good, voltagesOf, currentsTo, phasorsOf, injectedOf, injectionsOf};
+ghost use Rattle.injections.specs.Injections.{Ybus, ybus, GoodTriplets, voltagesOf, currentsTo, phasorsOf, injectedOf, injectionsOf};
 ghost use Rattle.injections.specs.Jacobian.{onDiagonal, offDiagonal, derivativesOf, entered, enteredRow, enteredAll, jacobianOf};
 use complex::Complex;
 use layout::AcPfLayout;
@@ -69,8 +69,10 @@ fn currents(
     y_im: &[f64],
     v: Column,
 ) -> Column
-    requires { ⌜ Good n (ybus (now «y_row») (now «y_col») (now «y_re») (now «y_im»)) ⌝ }
-    ensures { λ r. ⌜ r ≡ currentsTo (length (now («y_row» .entry))) (ybus (now («y_row» .entry)) (now («y_col» .entry)) (now («y_re» .entry)) (now («y_im» .entry))) v ⌝ }
+    ghost { Ybus }
+    requires { λ y. ⌜ ybus (now «y_row») (now «y_col») (now «y_re») (now «y_im») ≡ y ⌝ }
+    requires { λ y. ⌜ GoodTriplets n y ⌝ }
+    ensures { λ y r. ⌜ r ≡ currentsTo (length (y .row)) y v ⌝ }
 {
     let mut re = [0.0; 32];
     let mut im = [0.0; 32];
@@ -95,8 +97,10 @@ pub fn bus_phasors(
     vm: [f64; 32],
     va: [f64; 32],
 ) -> Phasors
-    requires { ⌜ Good n (ybus (now «y_row») (now «y_col») (now «y_re») (now «y_im»)) ⌝ }
-    ensures { λ r. ⌜ r ≡ phasorsOf n (ybus (now («y_row» .entry)) (now («y_col» .entry)) (now («y_re» .entry)) (now («y_im» .entry))) vm va ⌝ }
+    ghost { Ybus }
+    requires { λ y. ⌜ ybus (now «y_row») (now «y_col») (now «y_re») (now «y_im») ≡ y ⌝ }
+    requires { λ y. ⌜ GoodTriplets n y ⌝ }
+    ensures { λ y r. ⌜ r ≡ phasorsOf n y vm va ⌝ }
 {
     let v = voltages(n, vm, va);
     let i = currents(n, y_row, y_col, y_re, y_im, v);
@@ -131,8 +135,10 @@ pub fn ac_injections(
     vm: [f64; 32],
     va: [f64; 32],
 ) -> Injections
-    requires { ⌜ Good n (ybus (now «y_row») (now «y_col») (now «y_re») (now «y_im»)) ⌝ }
-    ensures { λ r. ⌜ r ≡ injectionsOf n (ybus (now («y_row» .entry)) (now («y_col» .entry)) (now («y_re» .entry)) (now («y_im» .entry))) vm va ⌝ }
+    ghost { Ybus }
+    requires { λ y. ⌜ ybus (now «y_row») (now «y_col») (now «y_re») (now «y_im») ≡ y ⌝ }
+    requires { λ y. ⌜ GoodTriplets n y ⌝ }
+    ensures { λ y r. ⌜ r ≡ injectionsOf n y vm va ⌝ }
 {
     let phasors = bus_phasors(n, y_row, y_col, y_re, y_im, vm, va);
     let power = bus_powers(n, phasors);
@@ -227,8 +233,10 @@ pub fn ac_jacobian(
     layout: AcPfLayout,
     w: &mut [f64],
 )
-    requires { ⌜ Good n (ybus (now «y_row») (now «y_col») (now «y_re») (now «y_im»)) × (4160 ≤ length (now w)) ⌝ }
-    ensures { λ _. ⌜ now (w .exit) ≡ jacobianOf (ybus (now («y_row» .entry)) (now («y_col» .entry)) (now («y_re» .entry)) (now («y_im» .entry))) va s layout (now (w .entry)) ⌝ }
+    ghost { Ybus }
+    requires { λ y. ⌜ ybus (now «y_row») (now «y_col») (now «y_re») (now «y_im») ≡ y ⌝ }
+    requires { λ y. ⌜ GoodTriplets n y × (4160 ≤ length (now w)) ⌝ }
+    ensures { λ y _. ⌜ now (w .exit) ≡ jacobianOf y va s layout (now (w .entry)) ⌝ }
 {
     // Voltages of magnitude one, once for each bus and not for each triplet.
     let unit = voltages(n, [1.0; 32], va);

@@ -15,7 +15,7 @@ use Rattle.layout.specs.Layout.{kindOf}
 use Rattle.layout.specs.Table.{stores, table}
 use Rattle.layout.specs.declared.Point.{Point}
 use Rattle.moves.specs.declared.Move.{Move}
-use Rattle.moves.specs.declared.Move.the-variants.{Keep, AtMax, AtMin, Back}
+use Rattle.moves.specs.declared.Move.the-variants.{Keep, AtMax, AtMin, Revert}
 use Rattle.moves.specs.declared.KindAt.{KindAt}
 use Rattle.moves.specs.declared.Track.{Track}
 
@@ -30,8 +30,8 @@ movePv q lo hi = cond (lt (add binary64 hi margin) q) AtMax (cond (lt q (sub bin
 unfoldable pub movePq : ℕ → Bool → Float → Float → Move
 movePq converted reverted v hold =
     cond reverted Keep
-    (cond (eqb converted 1) (cond (lt (add binary64 hold margin) v) Back Keep)
-    (cond (eqb converted 2) (cond (lt v (sub binary64 hold margin)) Back Keep) Keep))
+    (cond (eqb converted 1) (cond (lt (add binary64 hold margin) v) Revert Keep)
+    (cond (eqb converted 2) (cond (lt v (sub binary64 hold margin)) Revert Keep) Keep))
 
 abbrev pub byKind : BusKind → Move → Move → Move
 byKind Slack a b = Keep
@@ -46,32 +46,32 @@ abbrev pub isMove : Move → Bool
 isMove Keep = false
 isMove AtMax = true
 isMove AtMin = true
-isMove Back = true
+isMove Revert = true
 
 abbrev pub kindAfter : Move → BusKind → BusKind
 kindAfter Keep k = k
 kindAfter AtMax k = Pq
 kindAfter AtMin k = Pq
-kindAfter Back k = Pv
+kindAfter Revert k = Pv
 
--- a released bus is scheduled at the limit that it broke, one that returns at what it was
+-- a converted bus is scheduled at the limit that it broke, a reverted one at what it was
 abbrev pub schedAfter : Move → Float → Float → Float → Float → Float
 schedAfter Keep s lo hi qg = s
 schedAfter AtMax s lo hi qg = hi
 schedAfter AtMin s lo hi qg = lo
-schedAfter Back s lo hi qg = qg
+schedAfter Revert s lo hi qg = qg
 
 abbrev pub convertedAfter : Move → ℕ → ℕ
 convertedAfter Keep c = c
 convertedAfter AtMax c = 1
 convertedAfter AtMin c = 2
-convertedAfter Back c = 0
+convertedAfter Revert c = 0
 
 abbrev pub revertedAfter : Move → Bool → Bool
 revertedAfter Keep r = r
 revertedAfter AtMax r = r
 revertedAfter AtMin r = r
-revertedAfter Back r = true
+revertedAfter Revert r = true
 
 -- the magnitude of a slack or V bus is the held value
 abbrev pub pinOf : BusKind → Float → Float → Float

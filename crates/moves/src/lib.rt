@@ -7,19 +7,20 @@ use real::V_BACK;
 ghost use mathlib.Core.Path.{_≡_};
 ghost use Prim.Native.Nat.{_≤_};
 ghost use lib.ListN.{length};
-ghost use Rattle.moves.specs.Moves.{movePv, movePq, moveOf, isMove, kindAfter, schedAfter, convertedAfter, revertedAfter, pinOf, letterOf, movesOf, anyMove, kindsAfter, trackAfter, pinned, schedAt, scheduleOf, keptKinds, lettersOf, anyGenerator};
+ghost use Rattle.moves.specs.Moves.{movePv, movePq, moveOf, isMove, kindAfter, schedAfter, convertedAfter, revertedAfter, pinOf, schedAt, letterOf};
+ghost use Rattle.moves.specs.Moves.{movesOf, anyGenerator, anyMove, kindsAfter, trackAfter, pinned, scheduleOf, keptKinds, lettersOf};
 
 // A kind in a struct of its own: a field can be an array of these, and not one of enums.
 pub struct KindAt {
     pub kind: BusKind,
 }
 
-// What a bus does after a round.
+// What a bus does after a round: it is kept, converted to Q at a limit, or reverted to V.
 pub enum Move {
     Keep,
     AtMax,
     AtMin,
-    Back,
+    Revert,
 }
 
 // What a round changes beside the kinds. converted: 0 not converted, 1 fixed at qmax, 2 fixed at qmin.
@@ -43,7 +44,7 @@ fn move_pv(q: f64, lo: f64, hi: f64) -> Move
     Move::Keep
 }
 
-// The way back is open once: a bus that could hold its voltage within the limit is restored.
+// A converted bus that could hold its voltage within the limit is reverted, once at most.
 fn move_pq(converted: u8, reverted: bool, v: f64, hold: f64) -> Move
     ensures { λ r. ⌜ r ≡ movePq converted reverted v hold ⌝ }
 {
@@ -52,13 +53,13 @@ fn move_pq(converted: u8, reverted: bool, v: f64, hold: f64) -> Move
     }
     if converted == 1 {
         if v > hold + V_BACK {
-            return Move::Back;
+            return Move::Revert;
         }
         return Move::Keep;
     }
     if converted == 2 {
         if v < hold - V_BACK {
-            return Move::Back;
+            return Move::Revert;
         }
         return Move::Keep;
     }
@@ -96,7 +97,7 @@ fn is_move(m: Move) -> bool
         Move::Keep => false,
         Move::AtMax => true,
         Move::AtMin => true,
-        Move::Back => true,
+        Move::Revert => true,
     }
 }
 
@@ -107,7 +108,7 @@ fn kind_after(m: Move, k: BusKind) -> BusKind
         Move::Keep => k,
         Move::AtMax => BusKind::Pq,
         Move::AtMin => BusKind::Pq,
-        Move::Back => BusKind::Pv,
+        Move::Revert => BusKind::Pv,
     }
 }
 
@@ -118,7 +119,7 @@ fn sched_after(m: Move, s: f64, lo: f64, hi: f64, qg: f64) -> f64
         Move::Keep => s,
         Move::AtMax => hi,
         Move::AtMin => lo,
-        Move::Back => qg,
+        Move::Revert => qg,
     }
 }
 
@@ -129,7 +130,7 @@ fn converted_after(m: Move, c: u8) -> u8
         Move::Keep => c,
         Move::AtMax => 1,
         Move::AtMin => 2,
-        Move::Back => 0,
+        Move::Revert => 0,
     }
 }
 
@@ -140,7 +141,7 @@ fn reverted_after(m: Move, r: bool) -> bool
         Move::Keep => r,
         Move::AtMax => r,
         Move::AtMin => r,
-        Move::Back => true,
+        Move::Revert => true,
     }
 }
 

@@ -13,7 +13,7 @@ use Rattle.layout.specs.Residual.{powers, residualOf}
 use Rattle.linsolve.specs.declared.Solution.{Solution}
 use Rattle.linsolve.specs.declared.Solution.the-variants as Solution
 use Rattle.linsolve.specs.Linear.{Outcome, answerOf, spaceOf, cleared, withSides, solution}
-use Rattle.injections.specs.Injections.{Ybus, Good, injectionsOf}
+use Rattle.injections.specs.Injections.{Ybus, GoodTriplets, injectionsOf}
 use Rattle.injections.specs.Jacobian.{jacobianOf}
 use Rattle.layout.specs.declared.Point.{Point}
 use Rattle.newton.specs.declared.Measured.{Measured}
@@ -36,8 +36,8 @@ abbrev pub problem : Ybus → AcPfLayout → List Float → List Float → List 
 problem y layout pd qd pg qg = record { y = y; layout = layout; pd = pd; qd = qd; pg = pg; qg = qg }
 
 -- what the callers have checked
-pub record Ready (g : Problem) : Type 0 where
-  pub good : Good (g .layout .n) (g .y)
+pub record GoodProblem (g : Problem) : Type 0 where
+  pub good : GoodTriplets (g .layout .n) (g .y)
   pub small : g .layout .dim ≤ 64
   pub demands : g .layout .n ≤ length (g .pd)
   pub reactive : g .layout .n ≤ length (g .qd)

@@ -9,9 +9,9 @@ ghost use Prim.Native.Nat.{_≤_};
 ghost use lib.ListN.{length};
 ghost use Rattle.real.specs.Literals.{one};
 ghost use Rattle.linsolve.specs.Linear.{outcome};
-ghost use Rattle.injections.specs.Injections.{ybus};
+ghost use Rattle.injections.specs.Injections.{Ybus, ybus, GoodTriplets};
 ghost use Rattle.newton.specs.Step.{movedBy, stepOf, unfitAt, unfitTo};
-ghost use Rattle.newton.specs.Newton.{problem, Ready, measuredOf, sidesTo, directionOf, attemptOf, triesFrom, lastEnding, run, newtonOf};
+ghost use Rattle.newton.specs.Newton.{Problem, problem, GoodProblem, measuredOf, sidesTo, directionOf, attemptOf, triesFrom, lastEnding, run, newtonOf};
 
 // What was worked out at a point: voltages and currents, the mismatch at each row, and its norm.
 pub struct Measured {
@@ -110,8 +110,10 @@ fn measure(
     qg: [f64; 32],
     p: Point,
 ) -> Measured
-    requires { ⌜ Ready (problem (ybus (now «y_row») (now «y_col») (now «y_re») (now «y_im»)) layout (now pd) (now qd) (now pg) qg) ⌝ }
-    ensures { λ r. ⌜ r ≡ measuredOf (problem (ybus (now («y_row» .entry)) (now («y_col» .entry)) (now («y_re» .entry)) (now («y_im» .entry))) layout (now (pd .entry)) (now (qd .entry)) (now (pg .entry)) qg) p ⌝ }
+    ghost { Problem }
+    requires { λ g. ⌜ problem (ybus (now «y_row») (now «y_col») (now «y_re») (now «y_im»)) layout (now pd) (now qd) (now pg) qg ≡ g ⌝ }
+    requires { λ g. ⌜ GoodProblem g ⌝ }
+    ensures { λ g r. ⌜ r ≡ measuredOf g p ⌝ }
 {
     let n = layout.n;
     let dim = layout.dim;
@@ -155,8 +157,10 @@ fn direction(
     m: Measured,
     w: &mut [f64],
 ) -> Solution
-    requires { ⌜ Rattle.injections.specs.Injections.Good (layout .n) (ybus (now «y_row») (now «y_col») (now «y_re») (now «y_im»)) × (layout .dim ≤ 64) × (4160 ≤ length (now w)) ⌝ }
-    ensures { λ s. ⌜ outcome s (now (w .exit)) ≡ directionOf (ybus (now («y_row» .entry)) (now («y_col» .entry)) (now («y_re» .entry)) (now («y_im» .entry))) layout va m (now (w .entry)) ⌝ }
+    ghost { Ybus }
+    requires { λ y. ⌜ ybus (now «y_row») (now «y_col») (now «y_re») (now «y_im») ≡ y ⌝ }
+    requires { λ y. ⌜ GoodTriplets (layout .n) y × (layout .dim ≤ 64) × (4160 ≤ length (now w)) ⌝ }
+    ensures { λ y s. ⌜ outcome s (now (w .exit)) ≡ directionOf y layout va m (now (w .entry)) ⌝ }
 {
     let n = layout.n;
     let dim = layout.dim;
@@ -186,8 +190,10 @@ fn attempt(
     w: &[f64],
     alpha: f64,
 ) -> Trial
-    requires { ⌜ Ready (problem (ybus (now «y_row») (now «y_col») (now «y_re») (now «y_im»)) layout (now pd) (now qd) (now pg) qg) × (4160 ≤ length (now w)) ⌝ }
-    ensures { λ r. ⌜ r ≡ attemptOf (measuredOf (problem (ybus (now («y_row» .entry)) (now («y_col» .entry)) (now («y_re» .entry)) (now («y_im» .entry))) layout (now (pd .entry)) (now (qd .entry)) (now (pg .entry)) qg)) layout p m (now (w .entry)) alpha ⌝ }
+    ghost { Problem }
+    requires { λ g. ⌜ problem (ybus (now «y_row») (now «y_col») (now «y_re») (now «y_im»)) layout (now pd) (now qd) (now pg) qg ≡ g ⌝ }
+    requires { λ g. ⌜ GoodProblem g × (4160 ≤ length (now w)) ⌝ }
+    ensures { λ g r. ⌜ r ≡ attemptOf (measuredOf g) layout p m (now (w .entry)) alpha ⌝ }
 {
     let n = layout.n;
     let t = take_step(layout, p, w, alpha);
@@ -228,8 +234,10 @@ fn search(
     m: Measured,
     w: &[f64],
 ) -> Trial
-    requires { ⌜ Ready (problem (ybus (now «y_row») (now «y_col») (now «y_re») (now «y_im»)) layout (now pd) (now qd) (now pg) qg) × (4160 ≤ length (now w)) ⌝ }
-    ensures { λ r. ⌜ r ≡ triesFrom 12 (measuredOf (problem (ybus (now («y_row» .entry)) (now («y_col» .entry)) (now («y_re» .entry)) (now («y_im» .entry))) layout (now (pd .entry)) (now (qd .entry)) (now (pg .entry)) qg)) layout p m (now (w .entry)) one ⌝ }
+    ghost { Problem }
+    requires { λ g. ⌜ problem (ybus (now «y_row») (now «y_col») (now «y_re») (now «y_im»)) layout (now pd) (now qd) (now pg) qg ≡ g ⌝ }
+    requires { λ g. ⌜ GoodProblem g × (4160 ≤ length (now w)) ⌝ }
+    ensures { λ g r. ⌜ r ≡ triesFrom 12 (measuredOf g) layout p m (now (w .entry)) one ⌝ }
 {
     let mut alpha = 1.0;
     for k in 0usize..12 {
@@ -286,8 +294,10 @@ pub fn newton(
     start: Point,
     w: &mut [f64],
 ) -> Ended
-    requires { ⌜ Ready (problem (ybus (now «y_row») (now «y_col») (now «y_re») (now «y_im»)) layout (now pd) (now qd) (now pg) qg) × (4160 ≤ length (now w)) ⌝ }
-    ensures { λ r. ⌜ run r (now (w .exit)) ≡ newtonOf (problem (ybus (now («y_row» .entry)) (now («y_col» .entry)) (now («y_re» .entry)) (now («y_im» .entry))) layout (now (pd .entry)) (now (qd .entry)) (now (pg .entry)) qg) start (now (w .entry)) ⌝ }
+    ghost { Problem }
+    requires { λ g. ⌜ problem (ybus (now «y_row») (now «y_col») (now «y_re») (now «y_im»)) layout (now pd) (now qd) (now pg) qg ≡ g ⌝ }
+    requires { λ g. ⌜ GoodProblem g × (4160 ≤ length (now w)) ⌝ }
+    ensures { λ g r. ⌜ run r (now (w .exit)) ≡ newtonOf g start (now (w .entry)) ⌝ }
 {
     let mut p = start;
     let mut m = measure(y_row, y_col, y_re, y_im, layout, pd, qd, pg, qg, p);

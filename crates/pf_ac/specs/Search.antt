@@ -48,9 +48,9 @@ pub data Searched : Type 0 where
 abbrev pub solved : Settled → AcPf
 solved s = Solved (s .ended .iterations) (s .residual)
 
--- what the result kept makes of the search
-abbrev pub judgedOf : Settled → ℕ → AcPf
-judgedOf s starts = cond (lt (s .residual) tolerance) (solved s) (NotConverged (s .residual) starts)
+-- what the residual and the iterations of the result kept make of the search
+abbrev pub judgedOf : Float → ℕ → ℕ → AcPf
+judgedOf res iterations starts = cond (lt res tolerance) (Solved iterations res) (NotConverged res starts)
 
 -- "The first below 1e-8 ends the search": what a start's result d makes of the best so far; else `rest` goes on with the one kept
 unfoldable pub tryOf : Bool → Settled → Done → (Settled → List Float → Searched) → Searched

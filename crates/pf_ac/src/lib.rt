@@ -7,15 +7,13 @@ use real::TOL;
 use starts::AcStart;
 use starts::References;
 ghost use mathlib.Core.Path.{_≡_};
-ghost use mathlib.Core.Bool.{cond};
 ghost use Prim.Native.Nat.{_≤_, _<_};
 ghost use lib.ListN.{length, getD};
 ghost use lib.Ieee.{nan};
 ghost use Rattle.real.specs.Literals.{nought};
 ghost use Rattle.layout.specs.Table.{table};
 ghost use Rattle.injections.specs.Injections.{ybus};
-ghost use Rattle.qlim.specs.Rounds.{study};
-ghost use Rattle.qlim.specs.Rounds as Rounds;
+ghost use Rattle.qlim.specs.Rounds.{Study, study, GoodStudy};
 ghost use Rattle.starts.specs.References.{Slacks};
 ghost use Rattle.pf_ac.specs.Search.{betterOf, firstOf, startOf, countOf, searched, judgedOf, searchOf};
 ghost use Rattle.network.specs.Network.{Network, busesOf, slacksOf, generatorsOf, branchesOf, tripletsOf, networkOf};
@@ -102,24 +100,18 @@ fn better(first: bool, best: f64, res: f64) -> bool
     res < best
 }
 
-fn pick(yes: bool, a: Settled, b: Settled) -> Settled
-    ensures { λ r. ⌜ r ≡ cond yes a b ⌝ }
+// What the residual and the iterations of the result kept make of the search: solved, or not yet.
+fn judged(residual: f64, iterations: usize, starts: usize) -> AcPf
+    ensures { λ r. ⌜ r ≡ judgedOf residual iterations starts ⌝ }
 {
-    if yes { a } else { b }
-}
-
-// What the result kept makes of the search: solved, or not yet.
-fn judged(best: Settled, starts: usize) -> AcPf
-    ensures { λ r. ⌜ r ≡ judgedOf best starts ⌝ }
-{
-    if best.residual < TOL {
+    if residual < TOL {
         return AcPf::Solved {
-            iterations: best.ended.iterations,
-            residual: best.residual,
+            iterations,
+            residual,
         };
     }
     AcPf::NotConverged {
-        mismatch: best.residual,
+        mismatch: residual,
         starts,
     }
 }
@@ -142,8 +134,10 @@ fn search(
     flat: Point,
     w: &mut [f64],
 ) -> Kept
-    requires { ⌜ Rounds.Ready (study n (ybus (now «y_row») (now «y_col») (now «y_re») (now «y_im»)) (now pd) (now qd) (now pg) qg limits «vm_hold») × (4160 ≤ length (now w)) ⌝ }
-    ensures { λ r. ⌜ searched (r .found) (r .best) (now (w .exit)) ≡ searchOf start (study n (ybus (now («y_row» .entry)) (now («y_col» .entry)) (now («y_re» .entry)) (now («y_im» .entry))) (now (pd .entry)) (now (qd .entry)) (now (pg .entry)) qg limits «vm_hold») kinds first flat (now (w .entry)) ⌝ }
+    ghost { Study }
+    requires { λ s. ⌜ study n (ybus (now «y_row») (now «y_col») (now «y_re») (now «y_im»)) (now pd) (now qd) (now pg) qg limits «vm_hold» ≡ s ⌝ }
+    requires { λ s. ⌜ GoodStudy s × (4160 ≤ length (now w)) ⌝ }
+    ensures { λ s r. ⌜ searched (r .found) (r .best) (now (w .exit)) ≡ searchOf start s kinds first flat (now (w .entry)) ⌝ }
 {
     let count = start_count(start);
     let mut best = qlim::nothing(first);
@@ -165,9 +159,10 @@ fn search(
             p,
             w,
         );
-        let yes = better(i == 0, best.residual, s.residual);
-        best = pick(yes, s, best);
-        let found = judged(best, count);
+        if better(i == 0, best.residual, s.residual) {
+            best = s;
+        }
+        let found = judged(best.residual, best.ended.iterations, count);
         let AcPf::NotConverged { .. } = found else {
             return Kept { found, best };
         };

@@ -12,12 +12,13 @@ use Rattle.layout.specs.declared.BusKind.{BusKind}
 use Rattle.layout.specs.declared.BusKind.the-variants.{Slack}
 use Rattle.layout.specs.declared.Limits.{Limits}
 use Rattle.layout.specs.Layout.{layoutOf}
-use Rattle.injections.specs.Injections.{Ybus, Good, injectionsOf}
+use Rattle.injections.specs.Injections.{Ybus, GoodTriplets, injectionsOf}
 use Rattle.layout.specs.declared.Point.{Point}
 use Rattle.injections.specs.declared.Column.{Column}
 use Rattle.newton.specs.declared.Ended.{Ended}
 use Rattle.newton.specs.declared.Ending.the-variants.{Spent}
-use Rattle.newton.specs.Newton.{problem, Run, newtonOf, endedOf, spaceAfter}
+use Rattle.newton.specs.Newton.{Problem, problem, Run, newtonOf, endedOf, spaceAfter}
+use Rattle.moves.specs.declared.Move.{Move}
 use Rattle.moves.specs.declared.Track.{Track}
 use Rattle.qlim.specs.declared.Settled.{Settled}
 use Rattle.moves.specs.Moves.{movesOf, anyMove, kindsAfter, trackAfter, pinned, scheduleOf, kindAt, keptKinds}
@@ -37,8 +38,8 @@ abbrev pub study : ℕ → Ybus → List Float → List Float → List Float →
 study n y pd qd pg qg limits hold = record { n = n; y = y; pd = pd; qd = qd; pg = pg; qg = qg; limits = limits; hold = hold }
 
 -- what the callers have checked
-pub record Ready (s : Study) : Type 0 where
-  pub good : Good (s .n) (s .y)
+pub record GoodStudy (s : Study) : Type 0 where
+  pub good : GoodTriplets (s .n) (s .y)
   pub demands : s .n ≤ length (s .pd)
   pub reactive : s .n ≤ length (s .qd)
   pub dispatch : s .n ≤ length (s .pg)
@@ -56,7 +57,7 @@ spaceDone (done s w) = w
 abbrev pub infinity : Float
 infinity = inf false
 
--- before the first round
+-- no rounds: what a search keeps before its first start
 abbrev pub nothing : Point → Settled
 nothing p =
     let zero : Column = record { re = replicate 32 nought; im = replicate 32 nought } in
@@ -71,30 +72,49 @@ nothing p =
 abbrev pub settleOf : ℕ → List BusKind → List Float → Ended → Float → Settled
 settleOf n kinds q e res = record { ended = e; kinds = keptKinds n kinds; schedule = scheduleOf n kinds q; residual = res }
 
--- what a round makes of Newton's end r: it settles, or `rest` goes on from the new kinds
-unfoldable pub roundOf : Study → List BusKind → Track → Run → (List BusKind → Track → Point → Settled → List Float → Done) → Done
-roundOf s kinds t r rest =
-    let e = endedOf r in
-    let q = injectionsOf (s .n) (s .y) (e .point .vm) (e .point .va) .power .q in
-    let ms = movesOf (s .n) kinds (s .limits) t (s .qd) q (e .point .vm) (s .hold) in
-    let next = kindsAfter (s .n) kinds ms in
-    let settled = done (settleOf (s .n) kinds (t .qsched) e (e .residual)) (spaceAfter r) in
-    cond (le tolerance (e .residual)) settled
-    (cond (anyMove (s .n) ms)
-    (rest next (trackAfter (s .n) t (s .limits) (s .qg) ms) (pinned (s .n) next (s .hold) (e .point)) (settleOf (s .n) kinds (t .qsched) e infinity) (spaceAfter r))
-    settled)
+-- ---- a round, under kinds and schedules
 
--- the next k rounds; with none left, the last that ran, at infinity
-unfoldable pub roundsFrom : ℕ → Study → List BusKind → Track → Point → Settled → List Float → Done
-roundsFrom zero s kinds t p last w = done last w
-roundsFrom (suc k) s kinds t p last w =
-    roundOf s kinds t (newtonOf (problem (s .y) (layoutOf (s .n) kinds) (s .pd) (s .qd) (s .pg) (t .qsched)) p w) (roundsFrom k s)
+-- what Newton's steps are run on
+abbrev pub problemIn : Study → List BusKind → Track → Problem
+problemIn s kinds t = problem (s .y) (layoutOf (s .n) kinds) (s .pd) (s .qd) (s .pg) (t .qsched)
+
+-- the moves at their end
+abbrev pub movesIn : Study → List BusKind → Track → Ended → List Move
+movesIn s kinds t e =
+    movesOf (s .n) kinds (s .limits) t (s .qd) (injectionsOf (s .n) (s .y) (e .point .vm) (e .point .va) .power .q) (e .point .vm) (s .hold)
+
+-- "the kinds given are those Newton used": its end r, given with a residual
+abbrev pub given : Study → List BusKind → Track → Run → Float → Done
+given s kinds t r res = done (settleOf (s .n) kinds (t .qsched) (endedOf r) res) (spaceAfter r)
+
+-- "a residual >= 1e-8 ends them; NaN does not". A round after which no bus moves ends them too; else `after` is what follows the moves
+unfoldable pub roundOf : Study → List BusKind → Track → Run → Done → Done
+roundOf s kinds t r after =
+    let end = given s kinds t r (endedOf r .residual) in
+    cond (le tolerance (endedOf r .residual)) end (cond (anyMove (s .n) (movesIn s kinds t (endedOf r))) after end)
+
+-- the last round: where a bus moves even after it, "twelve rounds without settling give infinity"
+abbrev pub lastRound : Study → List BusKind → Track → Run → Done
+lastRound s kinds t r = roundOf s kinds t r (given s kinds t r infinity)
+
+-- an earlier one: `rest` goes on with the kinds and schedules after the moves, from Newton's end with the held magnitudes set
+abbrev pub earlierRound : Study → List BusKind → Track → Run → (List BusKind → Track → Point → List Float → Done) → Done
+earlierRound s kinds t r rest =
+    let ms = movesIn s kinds t (endedOf r) in
+    let next = kindsAfter (s .n) kinds ms in
+    roundOf s kinds t r (rest next (trackAfter (s .n) t (s .limits) (s .qg) ms) (pinned (s .n) next (s .hold) (endedOf r .point)) (spaceAfter r))
+
+-- ---- all rounds
+
+-- a round, and at most k more
+unfoldable pub roundsFrom : ℕ → Study → List BusKind → Track → Point → List Float → Done
+roundsFrom zero s kinds t p w = lastRound s kinds t (newtonOf (problemIn s kinds t) p w)
+roundsFrom (suc k) s kinds t p w = earlierRound s kinds t (newtonOf (problemIn s kinds t) p w) (roundsFrom k s)
 
 -- nothing converted, everything as scheduled
 abbrev pub fresh : List Float → Track
 fresh qg = record { qsched = qg; converted = replicate 32 0; reverted = replicate 32 false }
 
+-- "at most 12 rounds": the first, from the start with the held magnitudes set, and 11 more
 unfoldable pub qlimOf : Study → List BusKind → Point → List Float → Done
-qlimOf s kinds p w =
-    let start = pinned (s .n) kinds (s .hold) p in
-    roundsFrom 12 s kinds (fresh (s .qg)) start (nothing start) w
+qlimOf s kinds p w = roundsFrom 11 s kinds (fresh (s .qg)) (pinned (s .n) kinds (s .hold) p) w

@@ -1,4 +1,5 @@
-// Of pf_ac.rs: solve_qlim. Rounds of Newton's steps, after each of which generators past their reactive limits are released and released ones restored.
+// Of pf_ac.rs: solve_qlim. Rounds of Newton's steps, after each of which buses with generators past their reactive limits are converted, and converted ones
+// that could hold their voltage reverted.
 use injections::Column;
 use injections::Phasors;
 use layout::AcPfLayout;
@@ -16,9 +17,9 @@ ghost use Prim.Native.Nat.{_≤_};
 ghost use lib.ListN.{length};
 ghost use Rattle.injections.specs.Injections.{ybus, injectedOf};
 ghost use Rattle.moves.specs.Moves.{movesOf};
-ghost use Rattle.qlim.specs.Rounds.{study, Ready, nothing, settleOf, done, qlimOf};
+ghost use Rattle.qlim.specs.Rounds.{Study, study, GoodStudy, nothing, settleOf, done, qlimOf};
 
-// The last round: Newton's end, the kinds and the schedule that it ran under. The residual is that of the end, or infinity where no typing settled.
+// The last round: Newton's end, the kinds and the schedule that it ran under. The residual is that of the end, or infinity where no kinds settled.
 pub struct Settled {
     pub ended: Ended,
     pub kinds: [KindAt; 32],
@@ -26,7 +27,7 @@ pub struct Settled {
     pub residual: f64,
 }
 
-// Before the first round.
+// No rounds: what a search keeps before its first start.
 pub fn nothing(p: Point) -> Settled
     ensures { λ r. ⌜ r ≡ nothing p ⌝ }
 {
@@ -66,7 +67,7 @@ fn settle(n: usize, kinds: [BusKind; 32], qsched: [f64; 32], e: Ended, residual:
 }
 
 // The moves at Newton's end: all buses are tested against the one set of figures there.
-fn switches(
+fn moves_at_end(
     n: usize,
     kinds: [BusKind; 32],
     limits: Limits,
@@ -92,7 +93,7 @@ fn switches(
     moves::moves(n, kinds, limits, t, qd, q_calc, vm, vm_hold)
 }
 
-// The kinds that come in are those of default_kinds. Running out of rounds with a switch pending means that no typing settled: infinity.
+// The kinds that come in are those of default_kinds. A bus that moves even after the twelfth round means that no kinds settled: infinity.
 pub fn solve_qlim(
     n: usize,
     default: [BusKind; 32],
@@ -109,8 +110,10 @@ pub fn solve_qlim(
     start: Point,
     w: &mut [f64],
 ) -> Settled
-    requires { ⌜ Ready (study n (ybus (now «y_row») (now «y_col») (now «y_re») (now «y_im»)) (now pd) (now qd) (now pg) qg limits «vm_hold») × (4160 ≤ length (now w)) ⌝ }
-    ensures { λ r. ⌜ done r (now (w .exit)) ≡ qlimOf (study n (ybus (now («y_row» .entry)) (now («y_col» .entry)) (now («y_re» .entry)) (now («y_im» .entry))) (now (pd .entry)) (now (qd .entry)) (now (pg .entry)) qg limits «vm_hold») default start (now (w .entry)) ⌝ }
+    ghost { Study }
+    requires { λ s. ⌜ study n (ybus (now «y_row») (now «y_col») (now «y_re») (now «y_im»)) (now pd) (now qd) (now pg) qg limits «vm_hold» ≡ s ⌝ }
+    requires { λ s. ⌜ GoodStudy s × (4160 ≤ length (now w)) ⌝ }
+    ensures { λ s r. ⌜ done r (now (w .exit)) ≡ qlimOf s default start (now (w .entry)) ⌝ }
 {
     let mut kinds = default;
     let mut t = Track {
@@ -119,24 +122,26 @@ pub fn solve_qlim(
         reverted: [false; 32],
     };
     let mut p = moves::pin(n, default, vm_hold, start);
-    let mut last = nothing(p);
-    for round in 0usize..12 {
+    let mut round = 0usize;
+    loop {
         let layout = AcPfLayout::with_kinds(n, kinds);
         let qsched = t.qsched;
         let e = newton::newton(y_row, y_col, y_re, y_im, layout, pd, qd, pg, qsched, p, w);
         if e.residual >= TOL {
             return settle(n, kinds, qsched, e, e.residual);
         }
-        let point = e.point;
-        let ms = switches(n, kinds, limits, t, qd, e, vm_hold);
+        let ms = moves_at_end(n, kinds, limits, t, qd, e, vm_hold);
         if !moves::any_move(n, ms) {
             return settle(n, kinds, qsched, e, e.residual);
         }
-        last = settle(n, kinds, qsched, e, 1.0 / 0.0);
+        if round == 11 {
+            return settle(n, kinds, qsched, e, 1.0 / 0.0);
+        }
+        let point = e.point;
         let next = moves::kinds_after(n, kinds, ms);
         kinds = next;
         t = moves::track_after(n, t, limits, qg, ms);
         p = moves::pin(n, next, vm_hold, point);
+        round = round + 1;
     }
-    last
 }

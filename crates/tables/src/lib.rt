@@ -12,7 +12,7 @@ ghost use lib.Ieee.{Float, nan};
 ghost use Rattle.layout.specs.Table.{stores};
 ghost use Rattle.network.specs.Network.{Network, Triplets, busesOf, slacksOf, generatorsOf, branchesOf, tripletsOf, networkOf};
 ghost use Rattle.network.specs.Checks.{WellIndexed};
-ghost use Rattle.injections.specs.Injections.{Good};
+ghost use Rattle.injections.specs.Injections.{GoodTriplets};
 ghost use Rattle.tables.specs.Tables.{Outs, outs, OnePerBus, placesOf, placesIn, roomy, checkedOf, withAnswer, written, writeOf};
 ghost use Rattle.tables.specs.Tables.{zeros, ran, runOf, paperOf, answer, solveOf};
 
@@ -78,7 +78,7 @@ fn write_answer(
 )
     ghost { Triplets × Outs }
     requires { λ α. ⌜ (tripletsOf (now «y_row») (now «y_col») (now «y_re») (now «y_im»), outs (now vm) (now va) (now p) (now q) (now kinds)) ≡ α ⌝ }
-    requires { λ (y, o). ⌜ Good n y × OnePerBus n (placesIn o) ⌝ }
+    requires { λ (y, o). ⌜ GoodTriplets n y × OnePerBus n (placesIn o) ⌝ }
     ensures { λ (y, o) _. ⌜ outs (now (vm .exit)) (now (va .exit)) (now (p .exit)) (now (q .exit)) (now (kinds .exit)) ≡ withAnswer n y point kept o ⌝ }
 {
     let letters = moves::letters(n, kept);
@@ -122,7 +122,7 @@ fn write(
 ) -> Outcome
     ghost { Triplets × Outs }
     requires { λ α. ⌜ (tripletsOf (now «y_row») (now «y_col») (now «y_re») (now «y_im»), outs (now vm) (now va) (now p) (now q) (now kinds)) ≡ α ⌝ }
-    requires { λ (y, o). ⌜ Good n y × OnePerBus n (placesIn o) ⌝ }
+    requires { λ (y, o). ⌜ GoodTriplets n y × OnePerBus n (placesIn o) ⌝ }
     ensures { λ (y, o) r. ⌜ written (paperOf r) (outs (now (vm .exit)) (now (va .exit)) (now (p .exit)) (now (q .exit)) (now (kinds .exit)))
         ≡ writeOf n y found point kept o ⌝ }
 {

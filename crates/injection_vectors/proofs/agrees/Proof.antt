@@ -5,7 +5,7 @@ use borrow.Author.Tests.{not-false}
 use Rattle.vectors.specs.Words.{Tells}
 use Rattle.vectors.specs.Words.Laws.{not-told, last-told}
 use Rattle.layout.specs.Table.{Below}
-use Rattle.injections.specs.Injections.{Ybus, Good}
+use Rattle.injections.specs.Injections.{Ybus, GoodTriplets}
 use Rattle.injection_vectors.specs.Told.{ybusTold}
 use Rattle.injection_vectors.proofs.Agreement.{below-told, good}
 use Rattle.injection_vectors.proofs.agrees.Statement.{statement}
@@ -35,7 +35,7 @@ rows-below c = rows-told (c .before .before .before) .0 (not-false _ (c .before 
 cols-below : (c : tie.Else2) → let a = start-of c .args in Below (a .n) (ybusTold (a .s .now) (a .m) .col)
 cols-below c = cols-told (c .before) .0 (not-false _ (c .if2 .left))
 
-checked : (c : tie.Else2) → let a = start-of c .args in Good (a .n) (ybusTold (a .s .now) (a .m))
+checked : (c : tie.Else2) → let a = start-of c .args in GoodTriplets (a .n) (ybusTold (a .s .now) (a .m))
 checked c = good _ _ _ (start-of c .pre .0 .few) (rows-below c) (cols-below c)
 
 -- ---- the needs

@@ -17,15 +17,15 @@ use Rattle.complex.specs.Numbers.{sumOf, productOf}
 use Rattle.layout.specs.Table.Laws.{table-at, table-past}
 use Rattle.injections.specs.declared.Column.{Column}
 use Rattle.injections.specs.declared.Phasors.{Phasors}
-use Rattle.injections.specs.Injections.{Ybus, Good, rowOf, colOf, entryOf, at, stored, columnOf, voltageAt, voltagesOf, currentsTo, phasorsOf, powerAt, injectedOf}
+use Rattle.injections.specs.Injections.{Ybus, GoodTriplets, rowOf, colOf, entryOf, at, stored, complexColumn, voltageAt, voltagesOf, currentsTo, phasorsOf, powerAt, injectedOf}
 
 -- ---- columns
 
 module _ (n : ℕ) (f : ℕ → Complex) (b : ℕ) where
-  pub column-at : b < n → n ≤ 32 → at (columnOf n f) b ≡ f b
+  pub column-at : b < n → n ≤ 32 → at (complexColumn n f) b ≡ f b
   column-at p few = rw (table-at n nought (λ k. f k .re) b nan p few, table-at n nought (λ k. f k .im) b nan p few)
 
-  pub column-past : n ≤ b → b < 32 → at (columnOf n f) b ≡ Numbers.zero
+  pub column-past : n ≤ b → b < 32 → at (complexColumn n f) b ≡ Numbers.zero
   column-past p h = rw (table-past n nought (λ k. f k .re) b nan p h, table-past n nought (λ k. f k .im) b nan p h)
 
 pub voltages-at : (n : ℕ) (vm va : List Float) (b : ℕ) → b < n → n ≤ 32 → at (voltagesOf n vm va) b ≡ voltageAt vm va b
@@ -93,7 +93,7 @@ module _ (n : ℕ) (y : Ybus) (vm va : List Float) where
   unfolding phasorsOf
   i-at b h = currents-at y (voltagesOf n vm va) (length (y .row)) b h
 
-  pub i-past : (b : ℕ) → Good n y → n ≤ b → b < 32 → at (phasorsOf n y vm va .i) b ≡ Numbers.zero
+  pub i-past : (b : ℕ) → GoodTriplets n y → n ≤ b → b < 32 → at (phasorsOf n y vm va .i) b ≡ Numbers.zero
   i-past b good p h = i-at b h ∙ current-none y (voltagesOf n vm va) (length (y .row)) b (λ t l e. let r = good .rows-below t l in omega arith)
 
 -- ---- powers

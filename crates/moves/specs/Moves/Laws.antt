@@ -17,7 +17,7 @@ use Rattle.layout.specs.declared.Limits.{Limits}
 use Rattle.layout.specs.Table.Laws.{stores-ext, table-same}
 use Rattle.layout.specs.Residual.Laws.{NoActive, NoReactive}
 use Rattle.moves.specs.declared.Move.{Move}
-use Rattle.moves.specs.declared.Move.the-variants.{Keep, AtMax, AtMin, Back}
+use Rattle.moves.specs.declared.Move.the-variants.{Keep, AtMax, AtMin, Revert}
 use Rattle.moves.specs.declared.Track.{Track}
 use Rattle.moves.specs.Moves.{movePv, movePq, moveOf, moveAt, movesOf, anyGenerator, kindAfter, schedAfter, convertedAfter}
 
@@ -31,7 +31,7 @@ no-move n kinds l t qd q vm hold e =
 
 -- ---- how a bus stands
 
--- the kinds whose limits are not read: a slack never moves, and a bus that begins as Q has no way back to go
+-- the kinds whose limits are not read: a slack never moves, and a bus that begins as Q is not converted, so it is not reverted
 abbrev pub NoLimits : BusKind → Type 0
 NoLimits k = (k ≡ Slack) ⊎ (k ≡ Pq)
 
@@ -39,7 +39,7 @@ NoLimits k = (k ≡ Slack) ⊎ (k ≡ Pq)
 pub data Standing : BusKind → BusKind → ℕ → Float → Float → Type 0 where
   slack : {c : ℕ} {x y : Float} → Standing Slack Slack c x y
   held : {c : ℕ} {x y : Float} → Standing Pv Pv c x y
-  released : {c : ℕ} {x y : Float} → x ≡ y → Standing Pv Pq c x y
+  converted : {c : ℕ} {x y : Float} → x ≡ y → Standing Pv Pq c x y
   loaded : {x y : Float} → x ≡ y → Standing Pq Pq 0 x y
 
 -- ---- what is withheld at another kind is not withheld here
@@ -77,7 +77,7 @@ module _ (P : Move → Type 0) where
   three true false true x y z = y
   three true false false x y z = z
 
-  two : (has r max min a b : Bool) → P Back → P Keep → P (cond has (cond r Keep (cond max (cond a Back Keep) (cond min (cond b Back Keep) Keep))) Keep)
+  two : (has r max min a b : Bool) → P Revert → P Keep → P (cond has (cond r Keep (cond max (cond a Revert Keep) (cond min (cond b Revert Keep) Keep))) Keep)
   two false r max min a b x z = z
   two true true max min a b x z = z
   two true false true min true b x z = x
@@ -96,7 +96,7 @@ module _ (has r : Bool) (q lo lo' hi hi' v hold : Float) where
   unfolding moveOf movePq
   move-alike q' slack eq el = refl
   move-alike q' held eq el = rw (active-v eq, limits-v el .0, limits-v el .1)
-  move-alike q' (released e) eq el = refl
+  move-alike q' (converted e) eq el = refl
   move-alike q' (loaded e) eq el = refl
 
   module _ (qg qg' : Float) where
@@ -108,7 +108,7 @@ module _ (has r : Bool) (q lo lo' hi hi' v hold : Float) where
     unfolding moveOf movePv movePq
     standing-on {x = x} {y = y} (slack {c = c}) el = none (Next Slack Slack c x y) has true slack
     standing-on {c = c} {x = x} {y = y} held el =
-        three (Next Pv Pv c x y) has (lt (add binary64 hi margin) q) (lt q (sub binary64 lo margin)) (released (limits-v el .1)) (released (limits-v el .0)) held
-    standing-on {c = c} {x = x} {y = y} (released e) el =
-        two (Next Pv Pq c x y) has r (eqb c 1) (eqb c 2) (lt (add binary64 hold margin) v) (lt v (sub binary64 hold margin)) held (released e)
+        three (Next Pv Pv c x y) has (lt (add binary64 hi margin) q) (lt q (sub binary64 lo margin)) (converted (limits-v el .1)) (converted (limits-v el .0)) held
+    standing-on {c = c} {x = x} {y = y} (converted e) el =
+        two (Next Pv Pq c x y) has r (eqb c 1) (eqb c 2) (lt (add binary64 hold margin) v) (lt v (sub binary64 hold margin)) held (converted e)
     standing-on {x = x} {y = y} (loaded e) el = none (Next Pq Pq 0 x y) has r (loaded e)

@@ -1,5 +1,7 @@
 -- `pf_ac::search` meets its contract: what is left from here gives what all starts give. Assumes nothing.
 use Prim.Native.Nat.{_-_, _≤_}
+use mathlib.Core.Bool.{cond}
+use mathlib.Core.Logic.{⊎-elim}
 use mathlib.Core.Path.{_≡_, refl, sym, _∙_}
 use native.Mathlib.Omega.{arith}
 use borrow.Author.Needs.{needs}
@@ -39,6 +41,11 @@ same-length c =
     let q = c .before .before .before .before .before .before .before in
     q .solve-qlim .kept .1 .1 .1 .1 .1 .1 .1 .1 .1 .1 .1 .1 .1 .0 ∙ q .before .before .before .before .loop .inv .1
 
+-- the better of the two is kept, by either way
+kept : (c : tie.Joined1 Inv-loop μ-loop)
+    → c .if1 .best ≡ cond (c .before .better .result) (c .before .before .before .before .solve-qlim .result) (c .before .before .before .before .before .before .before .before .loop .best)
+kept c = ⊎-elim (λ y. rw (y .0 .taken) (y .1)) (λ y. rw (y .0 .left) (y .1)) (c .if1 .came)
+
 returns : tie.Need-returns Inv-loop μ-loop
 returns c =
     let j = c .before .before in
@@ -47,8 +54,8 @@ returns c =
     let q = y .before .before .before in
     let p = q .before .before in
     let l = p .before .before in
-    let below = judged-below (k .pick .result) _ _ (j .judged .ensures) _ _ (c .enum-told2 .given .1) in
-    sym (search-ends _ _ _ _ _ _ _ _ _ _ (p .start-at .ensures) _ _ (q .solve-qlim .ensures) _ (y .better .ensures) _ (k .pick .ensures) _ (judged-solved (k .pick .result) _ _ (j .judged .ensures) below) below)
+    let below = judged-below _ _ _ _ (j .judged .ensures) _ _ (c .enum-told2 .given .1) in
+    sym (search-ends _ _ _ _ _ _ _ _ _ _ (p .start-at .ensures) _ _ (q .solve-qlim .ensures) _ (y .better .ensures) _ (kept k) _ (judged-solved _ _ _ _ (j .judged .ensures) below) below)
     ∙ (rw (fuel _ _ (p .before .loop-test .taken)) at (l .loop .inv .2))
 
 loop-again : tie.Need-loop-again Inv-loop μ-loop
@@ -59,10 +66,10 @@ loop-again c =
     let q = y .before .before .before in
     let p = q .before .before in
     let l = p .before .before in
-    let above = judged-above (k .pick .result) _ _ (j .judged .ensures) _ _ (c .enum-told .given .1) in (
+    let above = judged-above _ _ _ _ (j .judged .ensures) _ _ (c .enum-told .given .1) in (
       omega (arith, p .before .loop-test .taken),
       q .solve-qlim .kept .1 .1 .1 .1 .1 .1 .1 .1 .1 .1 .1 .1 .1 .0 ∙ l .loop .inv .1,
-      sym (search-on _ _ _ _ _ _ _ _ _ _ (p .start-at .ensures) _ _ (q .solve-qlim .ensures) _ (y .better .ensures) _ (k .pick .ensures) above)
+      sym (search-on _ _ _ _ _ _ _ _ _ _ (p .start-at .ensures) _ _ (q .solve-qlim .ensures) _ (y .better .ensures) _ (kept k) above)
           ∙ (rw (fuel _ _ (p .before .loop-test .taken)) at (l .loop .inv .2)),
     )
 
@@ -93,7 +100,6 @@ search-spec =
     loop-holds
     start-at-requires
     solve-qlim-requires
-    (λ c κs. search needs)
     (λ c κs. search needs)
     (λ c κs. search needs)
     (λ c. search needs)

@@ -35,22 +35,22 @@ later-case start n kinds first flat zero e h = absurd (h refl)
 later-case start n kinds first flat (suc i) e h = let q : suc i - 1 ≡ i = omega arith in rw (e, q)
 
 -- what the judgement tells of the residual
-module _ (s : Settled) (starts : ℕ) (found : AcPf) (h : found ≡ judgedOf s starts) where
-  pub judged-below : (i : ℕ) (x : Float) → found ≡ Solved i x → lt (s .residual) tolerance ≡ true
-  judged-below i x e = go (lt (s .residual) tolerance) refl
+module _ (res : Float) (it starts : ℕ) (found : AcPf) (h : found ≡ judgedOf res it starts) where
+  pub judged-below : (i : ℕ) (x : Float) → found ≡ Solved i x → lt res tolerance ≡ true
+  judged-below i x e = go (lt res tolerance) refl
     where
-      go : (t : Bool) → lt (s .residual) tolerance ≡ t → lt (s .residual) tolerance ≡ true
+      go : (t : Bool) → lt res tolerance ≡ t → lt res tolerance ≡ true
       go true q = q
-      go false q = let k : Solved i x ≡ NotConverged (s .residual) starts = sym e ∙ rw q at h in cc
+      go false q = let k : Solved i x ≡ NotConverged res starts = sym e ∙ rw q at h in cc
 
-  pub judged-above : (x : Float) (k : ℕ) → found ≡ NotConverged x k → lt (s .residual) tolerance ≡ false
-  judged-above x k e = go (lt (s .residual) tolerance) refl
+  pub judged-above : (x : Float) (k : ℕ) → found ≡ NotConverged x k → lt res tolerance ≡ false
+  judged-above x k e = go (lt res tolerance) refl
     where
-      go : (t : Bool) → lt (s .residual) tolerance ≡ t → lt (s .residual) tolerance ≡ false
-      go true q = let r : NotConverged x k ≡ solved s = sym e ∙ rw q at h in cc
+      go : (t : Bool) → lt res tolerance ≡ t → lt res tolerance ≡ false
+      go true q = let r : NotConverged x k ≡ Solved it res = sym e ∙ rw q at h in cc
       go false q = q
 
-  pub judged-solved : lt (s .residual) tolerance ≡ true → found ≡ solved s
+  pub judged-solved : lt res tolerance ≡ true → found ≡ Solved it res
   judged-solved q = rw q at h
 
 module _ (start : AcStart) (s : Study) (kinds : List BusKind) (first flat : Point) where

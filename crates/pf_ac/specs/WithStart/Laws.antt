@@ -12,9 +12,8 @@ use Rattle.islands.specs.Islands.{Ends}
 use Rattle.starts.specs.declared.References.{References}
 use Rattle.starts.specs.declared.AcStart.{AcStart}
 use Rattle.starts.specs.Starts.{flatOf}
-use Rattle.injections.specs.Injections.{Good}
-use Rattle.qlim.specs.Rounds.{study}
-use Rattle.qlim.specs.Rounds as Rounds
+use Rattle.injections.specs.Injections.{GoodTriplets}
+use Rattle.qlim.specs.Rounds.{study, GoodStudy}
 use Rattle.pf_ac.specs.Search.{Searched, firstOf, searchOf}
 use Rattle.pf_ac.specs.WithStart.{tabled, kindsFor, limitsFor, referencesFor, acPfOf}
 
@@ -22,12 +21,12 @@ module _ (t : Network) (r : WellIndexed t) where
   pub branch-ends : Ends (busCount t) (t .branches .from) (t .branches .to)
   branch-ends = let e = r .branches .to in record { paired = sym e; below = λ i p. (r .branch-from i p, r .branch-to i (omega arith)) }
 
-  pub good-triplets : Good (busCount t) (t .triplets)
+  pub good-triplets : GoodTriplets (busCount t) (t .triplets)
   good-triplets =
       let y = r .triplets in
       record { few = r .buses .few; cols = y .col; res = y .re; ims = y .im; rows-below = r .triplet-row; cols-below = r .triplet-col }
 
-  pub good-study : (qg : List Float) (l : Limits) (hold : List Float) → Rounds.Ready (study (busCount t) (t .triplets) (t .buses .pd) (t .buses .qd) (t .buses .pg) qg l hold)
+  pub good-study : (qg : List Float) (l : Limits) (hold : List Float) → GoodStudy (study (busCount t) (t .triplets) (t .buses .pd) (t .buses .qd) (t .buses .pg) qg l hold)
   good-study qg l hold =
       let a = r .buses .pd in
       let b = r .buses .qd in

@@ -22,10 +22,9 @@ use Rattle.newton.specs.Newton.Laws.{newton-same}
 use Rattle.moves.specs.declared.Move.{Move}
 use Rattle.moves.specs.declared.Move.the-variants.{Keep}
 use Rattle.moves.specs.declared.Track.{Track}
-use Rattle.qlim.specs.declared.Settled.{Settled}
 use Rattle.moves.specs.Moves.{moveAt, movesOf, anyMove, kindsAfter, trackTo, trackAfter, pinned, schedAt, scheduleOf, keptKinds}
-use Rattle.moves.specs.Moves.Laws.{NoLimits, Standing, slack, held, released, loaded, active-v, active-q, reactive-q, move-alike, After, standing-on}
-use Rattle.qlim.specs.Rounds.{Study, study, Done, done, infinity, nothing, roundOf, roundsFrom, fresh, qlimOf}
+use Rattle.moves.specs.Moves.Laws.{NoLimits, Standing, slack, held, converted, loaded, active-v, active-q, reactive-q, move-alike, After, standing-on}
+use Rattle.qlim.specs.Rounds.{Study, study, Done, done, infinity, roundOf, lastRound, earlierRound, roundsFrom, fresh, qlimOf}
 
 -- alike for rounds that begin under these kinds: at each bus a figure agrees, or the bus is of a kind at which it is withheld
 pub record AlikeStudies (kinds : List BusKind) (s u : Study) : Type 0 where
@@ -67,13 +66,13 @@ module _ (d : List BusKind) (s u : Study) (few : s .n ≤ 32) (a : AlikeStudies 
     active : {e k : BusKind} {z : ℕ} {v w : Float} {A B : Type 0} → Standing e k z v w → NoActive e ⊎ A → NoActive e ⊎ B → NoActive k ⊎ (A × B)
     active slack p q = inl refl
     active held p q = inr (active-v p, active-v q)
-    active (released f) p q = inr (active-v p, active-v q)
+    active (converted f) p q = inr (active-v p, active-v q)
     active (loaded f) p q = inr (active-q p, active-q q)
 
     reactive : {e k : BusKind} {z : ℕ} {v w : Float} {A : Type 0} → Standing e k z v w → NoActive e ⊎ A → NoReactive k ⊎ ((v ≡ w) × A)
     reactive slack p = inl (inl refl)
     reactive held p = inl (inr refl)
-    reactive (released f) p = inr (f, active-v p)
+    reactive (converted f) p = inr (f, active-v p)
     reactive (loaded f) p = inr (f, active-q p)
 
     abbrev one : Problem
@@ -152,20 +151,16 @@ module _ (d : List BusKind) (s u : Study) (few : s .n ≤ 32) (a : AlikeStudies 
   -- ---- the rounds
 
   abbrev Rest : Type 0
-  Rest = List BusKind → Track → Point → Settled → List Float → Done
+  Rest = List BusKind → Track → Point → List Float → Done
 
   -- whatever goes on from tables that stand goes on alike
   abbrev Alike : Rest → Rest → Type 0
   Alike f g =
-      (kinds : List BusKind) (c : List ℕ) (r : List Bool) (x y : List Float) → Stand kinds c x y → (p : Point) (last : Settled) (w : List Float) → f kinds (track x c r) p last w ≡ g kinds (track y c r) p last w
+      (kinds : List BusKind) (c : List ℕ) (r : List Bool) (x y : List Float) → Stand kinds c x y → (p : Point) (w : List Float) → f kinds (track x c r) p w ≡ g kinds (track y c r) p w
 
-  module _ (f g : Rest) (alike : Alike f g) (kinds : List BusKind) (c : List ℕ) (r : List Bool) (x y : List Float) (i : Stand kinds c x y) (e : Run) where
+  module _ (kinds : List BusKind) (c : List ℕ) (r : List Bool) (x y : List Float) (i : Stand kinds c x y) (e : Run) where
     abbrev at-end : Point
     at-end = endedOf e .point
-
-    -- Newton's end with a schedule and a residual
-    abbrev settled : List Float → Float → Settled
-    settled z res = record { ended = endedOf e; kinds = keptKinds (s .n) kinds; schedule = z; residual = res }
 
     -- of the schedule only the Q buses' figures are handed on
     schedule-alike : scheduleOf (s .n) kinds x ≡ scheduleOf (s .n) kinds y
@@ -175,38 +170,53 @@ module _ (d : List BusKind) (s u : Study) (few : s .n ≤ 32) (a : AlikeStudies 
         go : {d k : BusKind} {c : ℕ} {v z : Float} → Standing d k c v z → schedAt k v ≡ schedAt k z
         go slack = refl
         go held = refl
-        go (released f) = f
+        go (converted f) = f
         go (loaded f) = f
 
     abbrev q-end : List Float
     q-end = injectionsOf (s .n) (s .y) (at-end .vm) (at-end .va) .power .q
 
-    -- the round, once its moves and what goes on from them are known
+    same-moves : moves kinds c x y i r q-end (at-end .vm) ≡ moves' kinds c x y i r q-end (at-end .vm)
+    same-moves = moves-alike kinds c x y i r q-end (at-end .vm)
+
+    -- Newton's end, given with a schedule and a residual
+    abbrev ends : List Float → Float → Done
+    ends z res = done (record { ended = endedOf e; kinds = keptKinds (s .n) kinds; schedule = z; residual = res }) (spaceAfter e)
+
+    -- the round, once its schedule, its moves and what follows them are known
     abbrev turned : List Float → List Move → Done → Done
-    turned q ms z =
-        let d = done (settled q (endedOf e .residual)) (spaceAfter e) in
-        cond (le tolerance (endedOf e .residual)) d (cond (anyMove (s .n) ms) z d)
+    turned z ms after =
+        let end = ends z (endedOf e .residual) in
+        cond (le tolerance (endedOf e .residual)) end (cond (anyMove (s .n) ms) after end)
 
-    abbrev goes : Rest → Study → List Float → List Float → List Move → Done
-    goes h t z q ms =
+    last-alike : lastRound s kinds (track x c r) e ≡ lastRound (with s u) kinds (track y c r) e
+    unfolding roundOf
+    last-alike =
+        let q = scheduleOf (s .n) kinds y in
+        ap (λ (z : List Float). turned z (moves kinds c x y i r q-end (at-end .vm)) (ends z infinity)) schedule-alike
+        ∙ ap (λ (m : List Move). turned q m (ends q infinity)) same-moves
+
+    -- where `rest` goes on from the moves
+    abbrev goes : Rest → Study → List Float → List Move → Done
+    goes rest t z ms =
         let next = kindsAfter (s .n) kinds ms in
-        h next (trackTo (s .n) (track z c r) (t .limits) (t .qg) ms) (pinned (s .n) next (s .hold) at-end) (settled q infinity) (spaceAfter e)
+        rest next (trackTo (s .n) (track z c r) (t .limits) (t .qg) ms) (pinned (s .n) next (s .hold) at-end) (spaceAfter e)
 
-    round-alike : roundOf s kinds (track x c r) e f ≡ roundOf (with s u) kinds (track y c r) e g
+    earlier-alike : (f g : Rest) → Alike f g → earlierRound s kinds (track x c r) e f ≡ earlierRound (with s u) kinds (track y c r) e g
     unfolding roundOf trackAfter
-    round-alike =
+    earlier-alike f g alike =
         let ms = moves kinds c x y i r q-end (at-end .vm) in
         let q = scheduleOf (s .n) kinds y in
-        ap (turned (scheduleOf (s .n) kinds x) ms) (alike _ _ (track-on kinds c x y i r q-end (at-end .vm) .reverted) _ _ (stand-on kinds c x y i r q-end (at-end .vm)) _ _ _)
-        ∙ ap (λ (z : List Float). turned z ms (goes g (with s u) y z ms)) schedule-alike
-        ∙ ap (λ (m : List Move). turned q m (goes g (with s u) y q m)) (moves-alike kinds c x y i r q-end (at-end .vm))
+        ap (turned (scheduleOf (s .n) kinds x) ms) (alike _ _ (track-on kinds c x y i r q-end (at-end .vm) .reverted) _ _ (stand-on kinds c x y i r q-end (at-end .vm)) _ _)
+        ∙ ap (λ (z : List Float). turned z ms (goes g (with s u) y ms)) schedule-alike
+        ∙ ap (λ (m : List Move). turned q m (goes g (with s u) y m)) same-moves
 
   rounds-alike : (k : ℕ) → Alike (roundsFrom k s) (roundsFrom k (with s u))
   unfolding roundsFrom
-  rounds-alike zero kinds c r x y i p last w = refl
-  rounds-alike (suc k) kinds c r x y i p last w =
-      ap (λ (e : Run). roundOf s kinds (track x c r) e (roundsFrom k s)) (newton-alike kinds c x y i p w)
-      ∙ round-alike (roundsFrom k s) (roundsFrom k (with s u)) (rounds-alike k) kinds c r x y i _
+  rounds-alike zero kinds c r x y i p w = ap (lastRound s kinds (track x c r)) (newton-alike kinds c x y i p w) ∙ last-alike kinds c r x y i _
+  rounds-alike (suc k) kinds c r x y i p w =
+      ap (λ (e : Run). earlierRound s kinds (track x c r) e (roundsFrom k s)) (newton-alike kinds c x y i p w)
+      ∙ earlier-alike kinds c r x y i _ (roundsFrom k s) (roundsFrom k (with s u)) (rounds-alike k)
 
   begin : Stand d (fresh (s .qg) .converted) (s .qg) (u .qg)
   begin =
@@ -229,27 +239,22 @@ module _ (d : List BusKind) (s u : Study) (few : s .n ≤ 32) (a : AlikeStudies 
 pub rounds-unread : (kinds : List BusKind) (s u : Study) → s .n ≤ 32 → AlikeStudies kinds s u → (p : Point) (w : List Float)
     → qlimOf s kinds p w ≡ qlimOf u kinds p w
 unfolding qlimOf
-rounds-unread kinds s u few a p w = by 12
+rounds-unread kinds s u few a p w = by 11
   where
     -- the start, over any number of rounds
     from : ℕ → Study → Done
-    from m t =
-        let start = pinned (t .n) kinds (t .hold) p in
-        roundsFrom m t kinds (fresh (t .qg)) start (nothing start) w
+    from m t = roundsFrom m t kinds (fresh (t .qg)) (pinned (t .n) kinds (t .hold) p) w
 
     by : (m : ℕ) → from m s ≡ from m u
     by m =
-        rounds-alike kinds s u few a m kinds _ _ _ _ (begin kinds s u few a) _ _ w
+        rounds-alike kinds s u few a m kinds _ _ _ _ (begin kinds s u few a) _ w
         ∙ (λ j. from m (study (a .same-n j) (a .same-y j) (u .pd) (u .qd) (u .pg) (u .qg) (record { qmin = u .limits .qmin; qmax = u .limits .qmax; «has_gen» = a .same-gens j }) (a .same-hold j)))
 
 -- and of the start only what is left of it once the held magnitudes are set
 pub start-unread : (kinds : List BusKind) (s : Study) (p q : Point) → pinned (s .n) kinds (s .hold) p ≡ pinned (s .n) kinds (s .hold) q → (w : List Float)
     → qlimOf s kinds p w ≡ qlimOf s kinds q w
 unfolding qlimOf
-start-unread kinds s p q e w = by 12
+start-unread kinds s p q e w = by 11
   where
-    from : ℕ → Point → Done
-    from m start = roundsFrom m s kinds (fresh (s .qg)) start (nothing start) w
-
-    by : (m : ℕ) → from m (pinned (s .n) kinds (s .hold) p) ≡ from m (pinned (s .n) kinds (s .hold) q)
-    by m = ap (from m) e
+    by : (m : ℕ) → roundsFrom m s kinds (fresh (s .qg)) (pinned (s .n) kinds (s .hold) p) w ≡ roundsFrom m s kinds (fresh (s .qg)) (pinned (s .n) kinds (s .hold) q) w
+    by m = ap (λ (start : Point). roundsFrom m s kinds (fresh (s .qg)) start w) e
