@@ -18,7 +18,7 @@ use Rattle.tables.specs.Tables.{Outs, answer, paperOf, solveOf}
 use Rattle.answer.specs.declared.Answered.the-variants as Answered
 use Rattle.answer.specs.TextAnswer.{blank, paperIn, textAnswer, textAnswerOf}
 
-module _ (s : List ℕ) (r : Reading) (read : Network) (h : Reader.outcome (Reader.paperOf r) read ≡ Reader.readOf s blank) where
+module _ (s : List ℕ) (r : Reading) (read : Network) (h : Reader.readResult (Reader.paperOf r) read ≡ Reader.readOf s blank) where
   pub answer-unread : Refused r → (o : Outs) (w : List Float) → textAnswer 0 (paperIn (Answered.Unread r)) o w ≡ textAnswerOf s o w
   unfolding textAnswerOf
   answer-unread k o w = rw (← h, refused-paper r k .3)

@@ -32,11 +32,11 @@ abbrev pub textAnswer : ℕ → Paper (ℕ × Float) → Outs → List Float →
 textAnswer n r o w = record { buses = n; paper = r; columns = o; space = w }
 
 -- of a good text the solve of its rows; a reader's refusal leaves columns and workspace untouched
-abbrev pub afterReading : Reader.Outcome → Outs → List Float → TextAnswer
-afterReading (Reader.outcome (given c) read) o w =
+abbrev pub afterReading : Reader.ReadResult → Outs → List Float → TextAnswer
+afterReading (Reader.readResult (given c) read) o w =
     let a = solveOf (c .start) (firstRows (c .rows) read) o w in
     textAnswer (c .rows .buses) (a .paper) (a .columns) (a .space)
-afterReading (Reader.outcome (refused number values) read) o w = textAnswer 0 (refused number values) o w
+afterReading (Reader.readResult (refused number values) read) o w = textAnswer 0 (refused number values) o w
 
 unfoldable pub textAnswerOf : List ℕ → Outs → List Float → TextAnswer
 textAnswerOf s o w = afterReading (Reader.readOf s blank) o w

@@ -16,12 +16,12 @@ use Rattle.fields.specs.Real.{amountOf}
 use Rattle.rows.specs.Line.{allSome, fieldsOf}
 use Rattle.rows.specs.Rows.{sectionOf, ended}
 use Rattle.rows.specs.declared.Section.the-variants as Section
-use Rattle.columns.specs.Columns.{columnOf, kindAt, realAt, numberAt}
+use Rattle.columns.specs.Columns.{columnOf, kindField, realField, numberField}
 use Rattle.case_text.specs.Alphabet.{knownOf}
 use Rattle.trailer.specs.Trailer.{risingOf, trailerOf, bytesOf}
 use Rattle.case_text.specs.Text.{partOf, bodyOf, textOf}
-use Rattle.network.specs.Network.{Network, Slacks, busesOf, slacksOf, generatorsOf, branchesOf, tripletsOf, networkOf, rowsOf, roomOf, fitsOf}
-use Rattle.case_text.specs.Answer.{outcome, filledFrom, filledOf, readOf}
+use Rattle.network.specs.Network.{Network, Slacks, busesOf, slacksOf, generatorsOf, branchesOf, tripletsOf, networkOf, rowCounts, roomOf, fitsOf}
+use Rattle.case_text.specs.Answer.{readResult, filledFrom, filledOf, readOf}
 use Rattle.case_text.specs.declared.Contents.{Contents}
 use Rattle.starts.specs.declared.AcStart.the-variants.{Flat}
 use Rattle.case_text.specs.declared.Reading.the-variants as Reading
@@ -32,7 +32,7 @@ listing =
     66 ∷ 32 ∷ 81 ∷ 32 ∷ 49 ∷ 32 ∷ 48 ∷ 32 ∷ 48 ∷ 32 ∷ 48 ∷ 32 ∷ 48 ∷ 32 ∷ 63 ∷ 32 ∷ 63 ∷ 10 ∷ 82 ∷ 32 ∷ 48 ∷ 32 ∷ 48 ∷ 10 ∷ 89 ∷ 32 ∷ 48 ∷ 32 ∷ 48 ∷ 32 ∷ 50 ∷ 32 ∷ 45 ∷ 56 ∷ 10 ∷ 70 ∷ 32 ∷ 48 ∷ 48 ∷ 48 ∷ 48 ∷ 48 ∷ 32 ∷ 48 ∷ 48 ∷ 48 ∷ 49 ∷ 56 ∷ 32 ∷ 48 ∷ 48 ∷ 48 ∷ 50 ∷ 52 ∷ 32 ∷ 48 ∷ 48 ∷ 48 ∷ 50 ∷ 52 ∷ 32 ∷ 48 ∷ 48 ∷ 48 ∷ 50 ∷ 52 ∷ 32 ∷ 48 ∷ 48 ∷ 48 ∷ 51 ∷ 53 ∷ 10 ∷ []
 
 abbrev pub listing-contents : Contents
-listing-contents = record { start = Flat; rows = rowsOf 1 1 0 0 1 }
+listing-contents = record { start = Flat; rows = rowCounts 1 1 0 0 1 }
 
 pub listing-text : textOf listing ≡ Reading.Good listing-contents
 unfolding bytesOf partOf bodyOf trailerOf risingOf knownOf sectionOf fieldsOf allSome pieces upto past has digits number amountOf
@@ -87,15 +87,15 @@ listing-tables t =
     (t .branches)
     (tripletsOf (set (y .row) 0 0) (set (y .col) 0 0) (set (y .re) 0 two) (set (y .im) 0 minus-eight))
 
-values-B : (columnOf (kindAt 0) line-B ≡ 81 ∷ []) × (columnOf (realAt 1) line-B ≡ one ∷ []) × (columnOf (realAt 2) line-B ≡ nought ∷ []) × (columnOf (realAt 3) line-B ≡ nought ∷ []) × (columnOf (realAt 4) line-B ≡ nought ∷ []) × (columnOf (realAt 5) line-B ≡ nought ∷ []) × (columnOf (realAt 6) line-B ≡ nan ∷ []) × (columnOf (realAt 7) line-B ≡ nan ∷ [])
+values-B : (columnOf (kindField 0) line-B ≡ 81 ∷ []) × (columnOf (realField 1) line-B ≡ one ∷ []) × (columnOf (realField 2) line-B ≡ nought ∷ []) × (columnOf (realField 3) line-B ≡ nought ∷ []) × (columnOf (realField 4) line-B ≡ nought ∷ []) × (columnOf (realField 5) line-B ≡ nought ∷ []) × (columnOf (realField 6) line-B ≡ nan ∷ []) × (columnOf (realField 7) line-B ≡ nan ∷ [])
 unfolding ended pieces upto past has digits number amountOf ofBits div neg ofInt
 values-B = (refl, refl, refl, refl, refl, refl, refl, refl)
 
-values-R : (columnOf (numberAt 0) line-R ≡ 0 ∷ []) × (columnOf (realAt 1) line-R ≡ nought ∷ [])
+values-R : (columnOf (numberField 0) line-R ≡ 0 ∷ []) × (columnOf (realField 1) line-R ≡ nought ∷ [])
 unfolding ended pieces upto past has digits number amountOf ofBits div neg ofInt
 values-R = (refl, refl)
 
-values-Y : (columnOf (numberAt 0) line-Y ≡ 0 ∷ []) × (columnOf (numberAt 1) line-Y ≡ 0 ∷ []) × (columnOf (realAt 2) line-Y ≡ two ∷ []) × (columnOf (realAt 3) line-Y ≡ minus-eight ∷ [])
+values-Y : (columnOf (numberField 0) line-Y ≡ 0 ∷ []) × (columnOf (numberField 1) line-Y ≡ 0 ∷ []) × (columnOf (realField 2) line-Y ≡ two ∷ []) × (columnOf (realField 3) line-Y ≡ minus-eight ∷ [])
 unfolding ended pieces upto past has digits number amountOf ofBits div neg ofInt
 values-Y = (refl, refl, refl, refl)
 
@@ -112,24 +112,24 @@ lines-written old = λ i.
     (busesOf (sets (b .kind) 0 (values-B .0 i)) (sets (b .vm-set) 0 (values-B .1 i)) (sets (b .pd) 0 (values-B .2 i)) (sets (b .qd) 0 (values-B .3 i))
     (sets (b .pg) 0 (values-B .4 i)) (sets (b .qg) 0 (values-B .5 i)) (sets (b .vm-case) 0 (values-B .6 i)) (sets (b .va-case) 0 (values-B .7 i)))
     (slacksOf (sets (old .slacks .bus) 0 (values-R .0 i)) (sets (old .slacks .angle) 0 (values-R .1 i)))
-    (generatorsOf (sets (g .bus) 0 (nothing (numberAt 0) i)) (sets (g .qmin) 0 (nothing (realAt 1) i)) (sets (g .qmax) 0 (nothing (realAt 2) i)))
-    (branchesOf (sets (old .branches .from) 0 (nothing (numberAt 0) i)) (sets (old .branches .to) 0 (nothing (numberAt 1) i)))
+    (generatorsOf (sets (g .bus) 0 (nothing (numberField 0) i)) (sets (g .qmin) 0 (nothing (realField 1) i)) (sets (g .qmax) 0 (nothing (realField 2) i)))
+    (branchesOf (sets (old .branches .from) 0 (nothing (numberField 0) i)) (sets (old .branches .to) 0 (nothing (numberField 1) i)))
     (tripletsOf (sets (y .row) 0 (values-Y .0 i)) (sets (y .col) 0 (values-Y .1 i)) (sets (y .re) 0 (values-Y .2 i)) (sets (y .im) 0 (values-Y .3 i)))
 
 listing-written : (old : Network) → filledOf listing 35 old ≡ listing-tables old
 unfolding filledOf
 listing-written old = (λ i. filledFrom (bytes-B i) (bytes-R i) (bytes-G i) (bytes-L i) (bytes-Y i) old) ∙ lines-written old
 
-pub listing-read : (old : Network) → fitsOf (listing-contents .rows) (roomOf old) ≡ true → readOf listing old ≡ outcome (given listing-contents) (listing-tables old)
+pub listing-read : (old : Network) → fitsOf (listing-contents .rows) (roomOf old) ≡ true → readOf listing old ≡ readResult (given listing-contents) (listing-tables old)
 unfolding readOf
-listing-read old h = rw (listing-text, h) (ap (outcome (given listing-contents)) (listing-written old))
+listing-read old h = rw (listing-text, h) (ap (readResult (given listing-contents)) (listing-written old))
 
 -- a bus line whose second field is `1.`
 abbrev pub point-text : List ℕ
 point-text =
     66 ∷ 32 ∷ 81 ∷ 32 ∷ 49 ∷ 46 ∷ 32 ∷ 48 ∷ 32 ∷ 48 ∷ 32 ∷ 48 ∷ 32 ∷ 48 ∷ 32 ∷ 63 ∷ 32 ∷ 63 ∷ 10 ∷ 70 ∷ 32 ∷ 48 ∷ 48 ∷ 48 ∷ 48 ∷ 48 ∷ 32 ∷ 48 ∷ 48 ∷ 48 ∷ 49 ∷ 57 ∷ 32 ∷ 48 ∷ 48 ∷ 48 ∷ 49 ∷ 57 ∷ 32 ∷ 48 ∷ 48 ∷ 48 ∷ 49 ∷ 57 ∷ 32 ∷ 48 ∷ 48 ∷ 48 ∷ 49 ∷ 57 ∷ 32 ∷ 48 ∷ 48 ∷ 48 ∷ 49 ∷ 57 ∷ 10 ∷ []
 
-pub point-refused : (old : Network) → readOf point-text old ≡ outcome (refused 5 (whole 4 ∷ [])) old
+pub point-refused : (old : Network) → readOf point-text old ≡ readResult (refused 5 (whole 4 ∷ [])) old
 unfolding readOf filledOf bytesOf partOf bodyOf trailerOf risingOf knownOf sectionOf ended fieldsOf allSome pieces upto past has digits number amountOf ofBits div neg ofInt
 point-refused old = refl
 
@@ -144,6 +144,6 @@ no-rows r = networkOf (busesOf [] [] [] [] [] [] [] []) r (generatorsOf [] [] []
 
 pub minus-read : (i j : ℕ) (u v : Float)
     → readOf minus-text (no-rows (slacksOf (i ∷ j ∷ []) (u ∷ v ∷ [])))
-    ≡ outcome (given (record { start = Flat; rows = rowsOf 0 2 0 0 0 })) (no-rows (slacksOf (0 ∷ 1 ∷ []) (lit 0x8000_0000_0000_0000 ∷ lit 0xbfd0_0000_0000_0000 ∷ [])))
+    ≡ readResult (given (record { start = Flat; rows = rowCounts 0 2 0 0 0 })) (no-rows (slacksOf (0 ∷ 1 ∷ []) (lit 0x8000_0000_0000_0000 ∷ lit 0xbfd0_0000_0000_0000 ∷ [])))
 unfolding both readOf filledOf bytesOf partOf bodyOf trailerOf risingOf knownOf sectionOf ended fieldsOf allSome pieces upto past has digits number amountOf ofBits div neg ofInt
 minus-read i j u v = refl

@@ -12,8 +12,8 @@ use Rattle.rows.proofs.Check.{the-type as check-type}
 use Rattle.rows.specs.declared.Check.{Check}
 use Rattle.rows.specs.declared.Check.the-variants as Check
 use Rattle.case_text.proofs.Reading.{the-type as reading-type}
-use Rattle.case_text.specs.Text.{thenSection, refusedOf}
-use Rattle.case_text.specs.Answer.{withRoom, outcomeOf, outcome, paperOf}
+use Rattle.case_text.specs.Text.{thenSection, sectionRefusal}
+use Rattle.case_text.specs.Answer.{withRoom, readResultOf, readResult, paperOf}
 use Rattle.network.specs.declared.Rows.{Rows}
 use Rattle.network.specs.Network.{Network}
 use Rattle.case_text.specs.declared.Reading.{Reading}
@@ -21,7 +21,7 @@ use Rattle.case_text.specs.declared.Reading.the-variants as Reading
 
 -- ---- a section's
 
-pub refusal : (v : Check) (k : ℕ → Reading) → OneOf (1 ∷ 2 ∷ 3 ∷ []) (tagOf check-type v) → thenSection v k ≡ refusedOf v
+pub refusal : (v : Check) (k : ℕ → Reading) → OneOf (1 ∷ 2 ∷ 3 ∷ []) (tagOf check-type v) → thenSection v k ≡ sectionRefusal v
 refusal (Check.Good n) k h = absurd (miss (1 ∷ 2 ∷ 3 ∷ []) 0 tt h)
 refusal (Check.Rows n) k h = refl
 refusal (Check.Form n) k h = refl
@@ -52,5 +52,5 @@ pub no-room : (v : Reading) (m : Rows) → Refused v → withRoom v m ≡ v
 no-room v m h = rw (refused-paper v h .3)
 
 -- and the columns stay as they were
-pub untouched : (s : List ℕ) (v : Reading) (old : Network) → Refused v → outcomeOf s v old ≡ outcome (paperOf v) old
+pub untouched : (s : List ℕ) (v : Reading) (old : Network) → Refused v → readResultOf s v old ≡ readResult (paperOf v) old
 untouched s v old h = rw (refused-paper v h .3)

@@ -10,7 +10,7 @@ use Rattle.real.specs.Paper.{Paper, given, refused, placeIn, onGiven}
 use Rattle.network.specs.Network.{Network, roomOf, fitsOf}
 use Rattle.trailer.specs.Trailer.{trailerStart}
 use Rattle.case_text.specs.Text.{textOf}
-use Rattle.case_text.specs.Answer.{paperOf, judgedOf, filledOf, Outcome, outcome, outcomeOf, readOf}
+use Rattle.case_text.specs.Answer.{paperOf, judgedOf, filledOf, ReadResult, readResult, readResultOf, readOf}
 use Rattle.case_text.specs.Answer.Laws.{with-room}
 use Rattle.case_text.specs.declared.Contents.{Contents}
 use Rattle.case_text.specs.declared.Reading.{Reading}
@@ -44,16 +44,16 @@ back-paper Reading.Room = refl
 pub paper-tells : (r₁ r₂ : Reading) → paperOf r₁ ≡ paperOf r₂ → r₁ ≡ r₂
 paper-tells r₁ r₂ h = sym (back-paper r₁) ∙ ap back h ∙ back-paper r₂
 
-abbrev answer : Outcome → Paper Contents
-answer (outcome p c) = p
+abbrev answer : ReadResult → Paper Contents
+answer (readResult p c) = p
 
-abbrev left : Outcome → Network
-left (outcome p c) = c
+abbrev left : ReadResult → Network
+left (readResult p c) = c
 
 -- ---- two outcomes that meet the contract are equal, lent memory included
 
-pub same-outcome : (s : List ℕ) (old : Network) (r₁ r₂ : Reading) (new₁ new₂ : Network) → outcome (paperOf r₁) new₁ ≡ readOf s old
-    → outcome (paperOf r₂) new₂ ≡ readOf s old → (r₁ ≡ r₂) × (new₁ ≡ new₂)
+pub same-outcome : (s : List ℕ) (old : Network) (r₁ r₂ : Reading) (new₁ new₂ : Network) → readResult (paperOf r₁) new₁ ≡ readOf s old
+    → readResult (paperOf r₂) new₂ ≡ readOf s old → (r₁ ≡ r₂) × (new₁ ≡ new₂)
 same-outcome s old r₁ r₂ new₁ new₂ h k = let e = h ∙ sym k in (paper-tells r₁ r₂ (ap answer e), ap left e)
 
 -- ---- what it accepts, and what it leaves
@@ -62,7 +62,7 @@ left-alone : (p : Paper Contents) (new old : Network) → ((c : Contents) → p 
 left-alone (given c) new old h = absurd (h c refl)
 left-alone (refused number values) new old h = refl
 
-module _ (s : List ℕ) (old new : Network) (r : Reading) (h : outcome (paperOf r) new ≡ readOf s old) where
+module _ (s : List ℕ) (old new : Network) (r : Reading) (h : readResult (paperOf r) new ≡ readOf s old) where
   -- the answer is the definition's
   pub answer-is : r ≡ judgedOf s (roomOf old)
   unfolding readOf
@@ -75,10 +75,10 @@ module _ (s : List ℕ) (old new : Network) (r : Reading) (h : outcome (paperOf 
   -- and then the places written are the definition's values
   pub writes : (c : Contents) → r ≡ Reading.Good c → new ≡ filledOf s (trailerStart s) old
   unfolding readOf
-  writes c e = ap left h ∙ ap (λ (v : Reading). left (outcomeOf s v old)) (sym answer-is ∙ e)
+  writes c e = ap left h ∙ ap (λ (v : Reading). left (readResultOf s v old)) (sym answer-is ∙ e)
 
   -- a refusal leaves every column untouched
   pub refusal-writes-nothing : ((c : Contents) → r ≡ Reading.Good c → ⊥) → new ≡ old
   unfolding readOf
   refusal-writes-nothing k =
-      ap left h ∙ ap (λ (v : Reading). left (outcomeOf s v old)) (sym answer-is) ∙ left-alone (paperOf r) _ old (λ c e. k c (paper-tells r (Reading.Good c) e))
+      ap left h ∙ ap (λ (v : Reading). left (readResultOf s v old)) (sym answer-is) ∙ left-alone (paperOf r) _ old (λ c e. k c (paper-tells r (Reading.Good c) e))

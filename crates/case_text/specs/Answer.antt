@@ -43,13 +43,13 @@ unfoldable pub filledOf : List ℕ → ℕ → Network → Network
 filledOf s t old = filledFrom (bytesOf Section.B s t) (bytesOf Section.R s t) (bytesOf Section.G s t) (bytesOf Section.L s t) (bytesOf Section.Y s t) old
 
 -- the answer and the tables afterwards
-pub data Outcome : Type 0 where
-  outcome : Paper Contents → Network → Outcome
+pub data ReadResult : Type 0 where
+  readResult : Paper Contents → Network → ReadResult
 
 -- "A reader refusal leaves its output columns untouched."
-abbrev pub outcomeOf : List ℕ → Reading → Network → Outcome
-outcomeOf s v old = outcome (paperOf v) (onGiven (paperOf v) (λ c. filledOf s (trailerStart s) old) old)
+abbrev pub readResultOf : List ℕ → Reading → Network → ReadResult
+readResultOf s v old = readResult (paperOf v) (onGiven (paperOf v) (λ c. filledOf s (trailerStart s) old) old)
 
 -- what the reader answers and leaves, of the text and the columns as they were
-unfoldable pub readOf : List ℕ → Network → Outcome
-readOf s old = outcomeOf s (judgedOf s (roomOf old)) old
+unfoldable pub readOf : List ℕ → Network → ReadResult
+readOf s old = readResultOf s (judgedOf s (roomOf old)) old

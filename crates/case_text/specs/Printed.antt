@@ -4,14 +4,14 @@ use Prim.Native.Nat.{ℕ, zero, suc, _+_}
 use mathlib.Core.List.{List, [], _∷_, _++_}
 use lib.ListN.{getD}
 use lib.Seq.{slice}
-use Rattle.rows.specs.Printed.{printed, tableOf}
+use Rattle.rows.specs.Printed.{printed, fieldTable}
 use Rattle.rows.specs.declared.Section.{Section}
 use Rattle.rows.specs.declared.Section.the-variants as Section
 use Rattle.trailer.specs.Trailer.{groups, bytesOf}
 
 -- the rows of a section, printed
 abbrev pub rowsPrinted : Section → List ℕ → ℕ → List ℕ
-rowsPrinted z s t = printed z (tableOf (bytesOf z s t))
+rowsPrinted z s t = printed z (fieldTable (bytesOf z s t))
 
 -- so many times a space and five bytes, from a place on
 unfoldable pub groupsPrinted : ℕ → List ℕ → ℕ → List ℕ

@@ -6,20 +6,20 @@ use mathlib.Core.List.{List}
 use lib.Dec.{ltb}
 use lib.ListN.{length, getD}
 use lib.Seq.{slice}
-use Rattle.network.specs.Network.{rowsOf}
+use Rattle.network.specs.Network.{rowCounts}
 use Rattle.rows.specs.Rows.{checkOf}
 use Rattle.rows.specs.declared.Section.{Section}
 use Rattle.rows.specs.declared.Section.the-variants as Section
 use Rattle.rows.specs.declared.Check.{Check}
 use Rattle.rows.specs.declared.Check.the-variants as Check
 use Rattle.case_text.specs.Alphabet.{knownOf}
-use Rattle.trailer.specs.Trailer.{trailerLength, trailerStart, modeOf, trailerOf, startOf, bytesOf}
+use Rattle.trailer.specs.Trailer.{trailerLength, trailerStart, modeOf, trailerOf, sectionStart, bytesOf}
 use Rattle.case_text.specs.declared.Reading.{Reading}
 use Rattle.case_text.specs.declared.Reading.the-variants as Reading
 
 -- a section, whose lines' and fields' places are places of the text
 unfoldable pub partOf : Section → List ℕ → ℕ → Check
-partOf z s t = checkOf z (startOf z s t) (bytesOf z s t)
+partOf z s t = checkOf z (sectionStart z s t) (bytesOf z s t)
 
 -- a section's refusal is the text's; a good one hands its rows on
 abbrev pub thenSection : Check → (ℕ → Reading) → Reading
@@ -29,13 +29,13 @@ thenSection (Check.Form at) k = Reading.Form at
 thenSection (Check.Field at) k = Reading.Field at
 
 -- what a section's refusal is of the text
-abbrev pub refusedOf : Check → Reading
-refusedOf v = thenSection v (λ n. Reading.Room)
+abbrev pub sectionRefusal : Check → Reading
+sectionRefusal v = thenSection v (λ n. Reading.Room)
 
 -- "Sections B, R, G, L, Y stand in that order"
 abbrev pub afterY : List ℕ → ℕ → ℕ → ℕ → ℕ → ℕ → ℕ → Reading
 afterY s t nb nr ng nl ny =
-    Reading.Good (record { start = modeOf (getD s t 0); rows = rowsOf nb nr ng nl ny })
+    Reading.Good (record { start = modeOf (getD s t 0); rows = rowCounts nb nr ng nl ny })
 
 abbrev pub afterL : List ℕ → ℕ → ℕ → ℕ → ℕ → ℕ → Reading
 afterL s t nb nr ng nl = thenSection (partOf Section.Y s t) (afterY s t nb nr ng nl)

@@ -10,8 +10,8 @@ ghost use Rattle.network.specs.Network.{busesOf, slacksOf, generatorsOf, branch
 ghost use Rattle.fields.specs.Cut.{has};
 ghost use Rattle.trailer.specs.Trailer.{trailerLength, trailerOf};
 ghost use Rattle.case_text.specs.Alphabet.{alphabet, knownOf};
-ghost use Rattle.case_text.specs.Text.{partOf, refusedOf, bodyOf, textOf};
-ghost use Rattle.case_text.specs.Answer.{outcome, paperOf, readOf, judgedOf};
+ghost use Rattle.case_text.specs.Text.{partOf, sectionRefusal, bodyOf, textOf};
+ghost use Rattle.case_text.specs.Answer.{readResult, paperOf, readOf, judgedOf};
 
 // What a good text holds: its start, and the rows of each table.
 pub struct Contents {
@@ -64,7 +64,7 @@ fn check_part(s: &[u8], t: usize, z: rows::Section) -> rows::Check
 
 // What a section's refusal is of the text.
 fn refused(v: rows::Check) -> Reading
-    ensures { λ r. ⌜ r ≡ refusedOf v ⌝ }
+    ensures { λ r. ⌜ r ≡ sectionRefusal v ⌝ }
 {
     match v {
         rows::Check::Good(_) => Reading::Room,
@@ -197,7 +197,7 @@ pub fn read_case(
         (generatorsOf (now («gen_bus» .exit)) (now (qmin .exit)) (now (qmax .exit)))
         (branchesOf (now («br_from» .exit)) (now («br_to» .exit)))
         (tripletsOf (now («y_row» .exit)) (now («y_col» .exit)) (now («y_re» .exit)) (now («y_im» .exit))) in
-        ⌜ outcome (paperOf r) new ≡ readOf (now (text .entry)) old ⌝ }
+        ⌜ readResult (paperOf r) new ≡ readOf (now (text .entry)) old ⌝ }
 {
     let room = Rows {
         buses: least8(

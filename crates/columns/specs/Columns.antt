@@ -19,14 +19,14 @@ abbrev pub cellOf : ℕ → List ℕ → List ℕ
 cellOf j l = getD (pieces 32 l) (j + 1) []
 
 -- the three kinds of column: reals (`?` is no other real, so it is read the same way wherever it is allowed), bus numbers, and a kind as its letter's byte
-abbrev pub realAt : ℕ → List ℕ → Float
-realAt j r = realIn (orNanOf (cellOf j r))
+abbrev pub realField : ℕ → List ℕ → Float
+realField j r = realIn (orNanOf (cellOf j r))
 
-abbrev pub numberAt : ℕ → List ℕ → ℕ
-numberAt j r = numberIn (busOf (cellOf j r))
+abbrev pub numberField : ℕ → List ℕ → ℕ
+numberField j r = numberIn (busOf (cellOf j r))
 
-abbrev pub kindAt : ℕ → List ℕ → ℕ
-kindAt j r = getD (cellOf j r) 0 0
+abbrev pub kindField : ℕ → List ℕ → ℕ
+kindField j r = getD (cellOf j r) 0 0
 
 -- what f says of each row of a section's bytes
 abbrev pub columnOf : {A : Type 0} → (List ℕ → A) → List ℕ → List A
@@ -40,18 +40,18 @@ filled f l old = sets old 0 (columnOf f l)
 
 abbrev pub filledBuses : List ℕ → Buses → Buses
 filledBuses l t =
-    busesOf (filled (kindAt 0) l (t .kind)) (filled (realAt 1) l (t .vm-set)) (filled (realAt 2) l (t .pd)) (filled (realAt 3) l (t .qd))
-    (filled (realAt 4) l (t .pg)) (filled (realAt 5) l (t .qg)) (filled (realAt 6) l (t .vm-case)) (filled (realAt 7) l (t .va-case))
+    busesOf (filled (kindField 0) l (t .kind)) (filled (realField 1) l (t .vm-set)) (filled (realField 2) l (t .pd)) (filled (realField 3) l (t .qd))
+    (filled (realField 4) l (t .pg)) (filled (realField 5) l (t .qg)) (filled (realField 6) l (t .vm-case)) (filled (realField 7) l (t .va-case))
 
 abbrev pub filledSlacks : List ℕ → Slacks → Slacks
-filledSlacks l t = slacksOf (filled (numberAt 0) l (t .bus)) (filled (realAt 1) l (t .angle))
+filledSlacks l t = slacksOf (filled (numberField 0) l (t .bus)) (filled (realField 1) l (t .angle))
 
 abbrev pub filledGenerators : List ℕ → Generators → Generators
-filledGenerators l t = generatorsOf (filled (numberAt 0) l (t .bus)) (filled (realAt 1) l (t .qmin)) (filled (realAt 2) l (t .qmax))
+filledGenerators l t = generatorsOf (filled (numberField 0) l (t .bus)) (filled (realField 1) l (t .qmin)) (filled (realField 2) l (t .qmax))
 
 abbrev pub filledBranches : List ℕ → Branches → Branches
-filledBranches l t = branchesOf (filled (numberAt 0) l (t .from)) (filled (numberAt 1) l (t .to))
+filledBranches l t = branchesOf (filled (numberField 0) l (t .from)) (filled (numberField 1) l (t .to))
 
 abbrev pub filledTriplets : List ℕ → Triplets → Triplets
 filledTriplets l t =
-    tripletsOf (filled (numberAt 0) l (t .row)) (filled (numberAt 1) l (t .col)) (filled (realAt 2) l (t .re)) (filled (realAt 3) l (t .im))
+    tripletsOf (filled (numberField 0) l (t .row)) (filled (numberField 1) l (t .col)) (filled (realField 2) l (t .re)) (filled (realField 3) l (t .im))

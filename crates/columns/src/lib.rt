@@ -8,7 +8,7 @@ ghost use lib.Seq.{slice};
 ghost use Rattle.fields.specs.Cut.{pieces};
 ghost use Rattle.network.specs.Network.{Buses, Slacks, Generators, Branches, Triplets, busesOf, slacksOf, generatorsOf, branchesOf, tripletsOf};
 ghost use Rattle.network.specs.Network.{RoomBuses, RoomSlacks, RoomGenerators, RoomBranches, RoomTriplets};
-ghost use Rattle.columns.specs.Columns.{rowCount, filled, realAt, numberAt, kindAt};
+ghost use Rattle.columns.specs.Columns.{rowCount, filled, realField, numberField, kindField};
 ghost use Rattle.columns.specs.Columns.{filledBuses, filledSlacks, filledGenerators, filledBranches, filledTriplets};
 
 // A part of the text.
@@ -39,7 +39,7 @@ fn piece(s: &[u8], a: usize, e: usize, n: usize) -> Part
 
 fn real_at(s: &[u8], a: usize, e: usize, j: usize) -> f64
     requires { ⌜ (a ≤ e) × (e ≤ length (now s)) × (j < 16) ⌝ }
-    ensures { λ r. ⌜ r ≡ realAt j (slice a e (now (s .entry))) ⌝ }
+    ensures { λ r. ⌜ r ≡ realField j (slice a e (now (s .entry))) ⌝ }
 {
     let c = piece(s, a, e, j + 1);
     let from = c.from;
@@ -49,7 +49,7 @@ fn real_at(s: &[u8], a: usize, e: usize, j: usize) -> f64
 
 fn number_at(s: &[u8], a: usize, e: usize, j: usize) -> usize
     requires { ⌜ (a ≤ e) × (e ≤ length (now s)) × (j < 16) ⌝ }
-    ensures { λ r. ⌜ r ≡ numberAt j (slice a e (now (s .entry))) ⌝ }
+    ensures { λ r. ⌜ r ≡ numberField j (slice a e (now (s .entry))) ⌝ }
 {
     let c = piece(s, a, e, j + 1);
     let from = c.from;
@@ -59,7 +59,7 @@ fn number_at(s: &[u8], a: usize, e: usize, j: usize) -> usize
 
 fn kind_at(s: &[u8], a: usize, e: usize, j: usize) -> u8
     requires { ⌜ (a ≤ e) × (e ≤ length (now s)) × (j < 16) ⌝ }
-    ensures { λ r. ⌜ r ≡ kindAt j (slice a e (now (s .entry))) ⌝ }
+    ensures { λ r. ⌜ r ≡ kindField j (slice a e (now (s .entry))) ⌝ }
 {
     let c = piece(s, a, e, j + 1);
     let from = c.from;
@@ -72,7 +72,7 @@ fn kind_at(s: &[u8], a: usize, e: usize, j: usize) -> u8
 fn fill_reals(s: &[u8], a: usize, e: usize, j: usize, out: &mut [f64])
     requires { ⌜ (a ≤ e) × (e ≤ length (now s)) ⌝ }
     requires { ⌜ (j < 16) × (rowCount (slice a e (now s)) ≤ length (now out)) ⌝ }
-    ensures { λ _. ⌜ now (out .exit) ≡ filled (realAt j) (slice a e (now (s .entry))) (now (out .entry)) ⌝ }
+    ensures { λ _. ⌜ now (out .exit) ≡ filled (realField j) (slice a e (now (s .entry))) (now (out .entry)) ⌝ }
 {
     let mut i = a;
     let mut r: usize = 0;
@@ -90,7 +90,7 @@ fn fill_reals(s: &[u8], a: usize, e: usize, j: usize, out: &mut [f64])
 fn fill_numbers(s: &[u8], a: usize, e: usize, j: usize, out: &mut [usize])
     requires { ⌜ (a ≤ e) × (e ≤ length (now s)) ⌝ }
     requires { ⌜ (j < 16) × (rowCount (slice a e (now s)) ≤ length (now out)) ⌝ }
-    ensures { λ _. ⌜ now (out .exit) ≡ filled (numberAt j) (slice a e (now (s .entry))) (now (out .entry)) ⌝ }
+    ensures { λ _. ⌜ now (out .exit) ≡ filled (numberField j) (slice a e (now (s .entry))) (now (out .entry)) ⌝ }
 {
     let mut i = a;
     let mut r: usize = 0;
@@ -108,7 +108,7 @@ fn fill_numbers(s: &[u8], a: usize, e: usize, j: usize, out: &mut [usize])
 fn fill_kinds(s: &[u8], a: usize, e: usize, j: usize, out: &mut [u8])
     requires { ⌜ (a ≤ e) × (e ≤ length (now s)) ⌝ }
     requires { ⌜ (j < 16) × (rowCount (slice a e (now s)) ≤ length (now out)) ⌝ }
-    ensures { λ _. ⌜ now (out .exit) ≡ filled (kindAt j) (slice a e (now (s .entry))) (now (out .entry)) ⌝ }
+    ensures { λ _. ⌜ now (out .exit) ≡ filled (kindField j) (slice a e (now (s .entry))) (now (out .entry)) ⌝ }
 {
     let mut i = a;
     let mut r: usize = 0;
@@ -135,10 +135,10 @@ fn fill_buses_front(
 )
     requires { ⌜ (a ≤ e) × (e ≤ length (now s)) ⌝ }
     requires { let r = rowCount (slice a e (now s)) in ⌜ (r ≤ length (now kind)) × (r ≤ length (now «vm_set»)) × (r ≤ length (now pd)) × (r ≤ length (now qd)) ⌝ }
-    ensures { λ _. ⌜ (now (kind .exit) ≡ filled (kindAt 0) (slice a e (now (s .entry))) (now (kind .entry)))
-        × (now («vm_set» .exit) ≡ filled (realAt 1) (slice a e (now (s .entry))) (now («vm_set» .entry)))
-        × (now (pd .exit) ≡ filled (realAt 2) (slice a e (now (s .entry))) (now (pd .entry)))
-        × (now (qd .exit) ≡ filled (realAt 3) (slice a e (now (s .entry))) (now (qd .entry))) ⌝ }
+    ensures { λ _. ⌜ (now (kind .exit) ≡ filled (kindField 0) (slice a e (now (s .entry))) (now (kind .entry)))
+        × (now («vm_set» .exit) ≡ filled (realField 1) (slice a e (now (s .entry))) (now («vm_set» .entry)))
+        × (now (pd .exit) ≡ filled (realField 2) (slice a e (now (s .entry))) (now (pd .entry)))
+        × (now (qd .exit) ≡ filled (realField 3) (slice a e (now (s .entry))) (now (qd .entry))) ⌝ }
 {
     fill_kinds(s, a, e, 0, kind);
     fill_reals(s, a, e, 1, vm_set);
@@ -158,10 +158,10 @@ fn fill_buses_back(
 )
     requires { ⌜ (a ≤ e) × (e ≤ length (now s)) ⌝ }
     requires { let r = rowCount (slice a e (now s)) in ⌜ (r ≤ length (now pg)) × (r ≤ length (now qg)) × (r ≤ length (now «vm_case»)) × (r ≤ length (now «va_case»)) ⌝ }
-    ensures { λ _. ⌜ (now (pg .exit) ≡ filled (realAt 4) (slice a e (now (s .entry))) (now (pg .entry)))
-        × (now (qg .exit) ≡ filled (realAt 5) (slice a e (now (s .entry))) (now (qg .entry)))
-        × (now («vm_case» .exit) ≡ filled (realAt 6) (slice a e (now (s .entry))) (now («vm_case» .entry)))
-        × (now («va_case» .exit) ≡ filled (realAt 7) (slice a e (now (s .entry))) (now («va_case» .entry))) ⌝ }
+    ensures { λ _. ⌜ (now (pg .exit) ≡ filled (realField 4) (slice a e (now (s .entry))) (now (pg .entry)))
+        × (now (qg .exit) ≡ filled (realField 5) (slice a e (now (s .entry))) (now (qg .entry)))
+        × (now («vm_case» .exit) ≡ filled (realField 6) (slice a e (now (s .entry))) (now («vm_case» .entry)))
+        × (now («va_case» .exit) ≡ filled (realField 7) (slice a e (now (s .entry))) (now («va_case» .entry))) ⌝ }
 {
     fill_reals(s, a, e, 4, pg);
     fill_reals(s, a, e, 5, qg);
@@ -197,8 +197,8 @@ pub fn fill_buses(
 fn fill_slacks(s: &[u8], a: usize, e: usize, slacks: &mut [usize], va_slacks: &mut [f64])
     requires { ⌜ (a ≤ e) × (e ≤ length (now s)) ⌝ }
     requires { ⌜ (rowCount (slice a e (now s)) ≤ length (now slacks)) × (rowCount (slice a e (now s)) ≤ length (now «va_slacks»)) ⌝ }
-    ensures { λ _. ⌜ (now (slacks .exit) ≡ filled (numberAt 0) (slice a e (now (s .entry))) (now (slacks .entry)))
-        × (now («va_slacks» .exit) ≡ filled (realAt 1) (slice a e (now (s .entry))) (now («va_slacks» .entry))) ⌝ }
+    ensures { λ _. ⌜ (now (slacks .exit) ≡ filled (numberField 0) (slice a e (now (s .entry))) (now (slacks .entry)))
+        × (now («va_slacks» .exit) ≡ filled (realField 1) (slice a e (now (s .entry))) (now («va_slacks» .entry))) ⌝ }
 {
     fill_numbers(s, a, e, 0, slacks);
     fill_reals(s, a, e, 1, va_slacks);
@@ -215,9 +215,9 @@ fn fill_generators(
 )
     requires { ⌜ (a ≤ e) × (e ≤ length (now s)) ⌝ }
     requires { let r = rowCount (slice a e (now s)) in ⌜ (r ≤ length (now «gen_bus»)) × (r ≤ length (now qmin)) × (r ≤ length (now qmax)) ⌝ }
-    ensures { λ _. ⌜ (now («gen_bus» .exit) ≡ filled (numberAt 0) (slice a e (now (s .entry))) (now («gen_bus» .entry)))
-        × (now (qmin .exit) ≡ filled (realAt 1) (slice a e (now (s .entry))) (now (qmin .entry)))
-        × (now (qmax .exit) ≡ filled (realAt 2) (slice a e (now (s .entry))) (now (qmax .entry))) ⌝ }
+    ensures { λ _. ⌜ (now («gen_bus» .exit) ≡ filled (numberField 0) (slice a e (now (s .entry))) (now («gen_bus» .entry)))
+        × (now (qmin .exit) ≡ filled (realField 1) (slice a e (now (s .entry))) (now (qmin .entry)))
+        × (now (qmax .exit) ≡ filled (realField 2) (slice a e (now (s .entry))) (now (qmax .entry))) ⌝ }
 {
     fill_numbers(s, a, e, 0, gen_bus);
     fill_reals(s, a, e, 1, qmin);
@@ -228,8 +228,8 @@ fn fill_generators(
 fn fill_branches(s: &[u8], a: usize, e: usize, br_from: &mut [usize], br_to: &mut [usize])
     requires { ⌜ (a ≤ e) × (e ≤ length (now s)) ⌝ }
     requires { ⌜ (rowCount (slice a e (now s)) ≤ length (now «br_from»)) × (rowCount (slice a e (now s)) ≤ length (now «br_to»)) ⌝ }
-    ensures { λ _. ⌜ (now («br_from» .exit) ≡ filled (numberAt 0) (slice a e (now (s .entry))) (now («br_from» .entry)))
-        × (now («br_to» .exit) ≡ filled (numberAt 1) (slice a e (now (s .entry))) (now («br_to» .entry))) ⌝ }
+    ensures { λ _. ⌜ (now («br_from» .exit) ≡ filled (numberField 0) (slice a e (now (s .entry))) (now («br_from» .entry)))
+        × (now («br_to» .exit) ≡ filled (numberField 1) (slice a e (now (s .entry))) (now («br_to» .entry))) ⌝ }
 {
     fill_numbers(s, a, e, 0, br_from);
     fill_numbers(s, a, e, 1, br_to);
@@ -247,10 +247,10 @@ fn fill_triplets(
 )
     requires { ⌜ (a ≤ e) × (e ≤ length (now s)) ⌝ }
     requires { let r = rowCount (slice a e (now s)) in ⌜ (r ≤ length (now «y_row»)) × (r ≤ length (now «y_col»)) × (r ≤ length (now «y_re»)) × (r ≤ length (now «y_im»)) ⌝ }
-    ensures { λ _. ⌜ (now («y_row» .exit) ≡ filled (numberAt 0) (slice a e (now (s .entry))) (now («y_row» .entry)))
-        × (now («y_col» .exit) ≡ filled (numberAt 1) (slice a e (now (s .entry))) (now («y_col» .entry)))
-        × (now («y_re» .exit) ≡ filled (realAt 2) (slice a e (now (s .entry))) (now («y_re» .entry)))
-        × (now («y_im» .exit) ≡ filled (realAt 3) (slice a e (now (s .entry))) (now («y_im» .entry))) ⌝ }
+    ensures { λ _. ⌜ (now («y_row» .exit) ≡ filled (numberField 0) (slice a e (now (s .entry))) (now («y_row» .entry)))
+        × (now («y_col» .exit) ≡ filled (numberField 1) (slice a e (now (s .entry))) (now («y_col» .entry)))
+        × (now («y_re» .exit) ≡ filled (realField 2) (slice a e (now (s .entry))) (now («y_re» .entry)))
+        × (now («y_im» .exit) ≡ filled (realField 3) (slice a e (now (s .entry))) (now («y_im» .entry))) ⌝ }
 {
     fill_numbers(s, a, e, 0, y_row);
     fill_numbers(s, a, e, 1, y_col);

@@ -13,7 +13,7 @@ use Rattle.islands.proofs.Examples.{labels-of-five}
 use Rattle.layout.proofs.Examples.{angle-columns-of-svqq, magnitude-columns-of-svqq}
 use Rattle.fields.proofs.Examples.{minus-zero, minus-quarter, point-last}
 use Rattle.case_text.proofs.Examples.{point-text, point-refused}
-use Rattle.lines.specs.Lines.{decimalBy, valuesOf, refusedOf}
+use Rattle.lines.specs.Lines.{decimalBy, printedValues, refusedLine}
 use Rattle.report.specs.Report.{Report, blank, readingOf, reportOf}
 use Rattle.report.proofs.Examples.{listing-reported}
 use Rattle.desk.specs.Examples.{Value, bytes, numbers, reals, field, solve, Hold, table}
@@ -23,7 +23,7 @@ abbrev real : Float → Value
 real x = reals (x ∷ [])
 
 point-printed : (w : List Float) → reportOf point-text w .bytes ≡ 114 ∷ 101 ∷ 102 ∷ 117 ∷ 115 ∷ 101 ∷ 100 ∷ 32 ∷ 53 ∷ 32 ∷ 52 ∷ 10 ∷ []
-unfolding reportOf refusedOf valuesOf decimalBy
+unfolding reportOf refusedLine printedValues decimalBy
 point-printed w = ap (λ r. readingOf r w .bytes) (point-refused blank)
 
 pub examples-hold : (w : List Float) → leb 6144 (length w) ≡ true → Hold (table w)

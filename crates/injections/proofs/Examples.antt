@@ -9,15 +9,16 @@ use Rattle.layout.specs.declared.AcPfLayout.{AcPfLayout}
 use Rattle.layout.specs.Layout.{none}
 use Rattle.linsolve.specs.Linear as Linear
 use Rattle.injections.specs.declared.Phasors.{Phasors}
-use Rattle.injections.specs.Injections.{Ybus, ybus, at, currentsTo}
+use Rattle.network.specs.Network.{Triplets, tripletsOf}
+use Rattle.injections.specs.Injections.{at, currentsTo}
 use Rattle.injections.specs.Jacobian.{jacobianOf, jacobianTo}
 
 -- j twice, and 2 j once
-abbrev pub twice : Ybus
-twice = ybus (0 ∷ 0 ∷ []) (0 ∷ 0 ∷ []) (double 0 ∷ double 0 ∷ []) (double 1 ∷ double 1 ∷ [])
+abbrev pub twice : Triplets
+twice = tripletsOf (0 ∷ 0 ∷ []) (0 ∷ 0 ∷ []) (double 0 ∷ double 0 ∷ []) (double 1 ∷ double 1 ∷ [])
 
-abbrev pub once : Ybus
-once = ybus (0 ∷ []) (0 ∷ []) (double 0 ∷ []) (double 2 ∷ [])
+abbrev pub once : Triplets
+once = tripletsOf (0 ∷ []) (0 ∷ []) (double 0 ∷ []) (double 2 ∷ [])
 
 -- the voltage 1, and the current 2 j that either drives
 abbrev pub phasors : Phasors

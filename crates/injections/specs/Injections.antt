@@ -10,20 +10,15 @@ use Rattle.real.specs.Literals.{nought}
 use Rattle.complex.specs.declared.Complex.{Complex}
 use Rattle.complex.specs.Numbers.{complex, sumOf, conjugateOf, productOf, polarOf}
 use Rattle.network.specs.Network.{Triplets, tripletsOf}
-use Rattle.layout.specs.Table.{table, Below}
+use Rattle.network.specs.Below.{Below}
+use Rattle.layout.specs.Table.{table}
 use Rattle.injections.specs.declared.Column.{Column}
 use Rattle.injections.specs.declared.Phasors.{Phasors}
 use Rattle.injections.specs.declared.Injected.{Injected}
 use Rattle.injections.specs.declared.Injections.{Injections}
 
-abbrev pub Ybus : Type 0
-Ybus = Triplets
-
-abbrev pub ybus : List ℕ → List ℕ → List Float → List Float → Ybus
-ybus row col re im = tripletsOf row col re im
-
 -- what the checks of the solve leave: at most 32 buses, columns of one length, bus numbers below the bus count
-pub record GoodTriplets (n : ℕ) (y : Ybus) : Type 0 where
+pub record GoodTriplets (n : ℕ) (y : Triplets) : Type 0 where
   pub few : n ≤ 32
   pub cols : length (y .col) ≡ length (y .row)
   pub res : length (y .re) ≡ length (y .row)
@@ -32,13 +27,13 @@ pub record GoodTriplets (n : ℕ) (y : Ybus) : Type 0 where
   pub cols-below : Below n (y .col)
 
 -- the row, the column and the admittance of triplet t
-abbrev pub rowOf : Ybus → ℕ → ℕ
+abbrev pub rowOf : Triplets → ℕ → ℕ
 rowOf y t = getD (y .row) t 0
 
-abbrev pub colOf : Ybus → ℕ → ℕ
+abbrev pub colOf : Triplets → ℕ → ℕ
 colOf y t = getD (y .col) t 0
 
-abbrev pub entryOf : Ybus → ℕ → Complex
+abbrev pub entryOf : Triplets → ℕ → Complex
 entryOf y t = complex (getD (y .re) t nan) (getD (y .im) t nan)
 
 -- the complex number at place b of a column, and a column with another there
@@ -60,14 +55,14 @@ unfoldable pub voltagesOf : ℕ → List Float → List Float → Column
 voltagesOf n vm va = complexColumn n (voltageAt vm va)
 
 -- "Currents are summed from zero in triplet order": after the first k triplets, y v of the triplet's column added at its row
-unfoldable pub currentsTo : ℕ → Ybus → Column → Column
+unfoldable pub currentsTo : ℕ → Triplets → Column → Column
 currentsTo zero y v = record { re = replicate 32 nought; im = replicate 32 nought }
 currentsTo (suc k) y v =
     let c = currentsTo k y v in
     stored c (rowOf y k) (sumOf (at c (rowOf y k)) (productOf (entryOf y k) (at v (colOf y k))))
 
 -- voltages, and the currents that they drive
-unfoldable pub phasorsOf : ℕ → Ybus → List Float → List Float → Phasors
+unfoldable pub phasorsOf : ℕ → Triplets → List Float → List Float → Phasors
 unfolding voltagesOf currentsTo
 phasorsOf n y vm va =
     let v = voltagesOf n vm va in
@@ -81,7 +76,7 @@ unfoldable pub injectedOf : ℕ → Phasors → Injected
 injectedOf n s = record { p = table n nought (λ b. powerAt s b .re); q = table n nought (λ b. powerAt s b .im) }
 
 -- all of it
-abbrev pub injectionsOf : ℕ → Ybus → List Float → List Float → Injections
+abbrev pub injectionsOf : ℕ → Triplets → List Float → List Float → Injections
 injectionsOf n y vm va =
     let s = phasorsOf n y vm va in
     record { phasors = s; power = injectedOf n s }

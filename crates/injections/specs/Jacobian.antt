@@ -15,7 +15,8 @@ use Rattle.layout.specs.Layout.{none}
 use Rattle.linsolve.specs.Linear.{added}
 use Rattle.injections.specs.declared.Phasors.{Phasors}
 use Rattle.injections.specs.declared.Derivatives.{Derivatives}
-use Rattle.injections.specs.Injections.{Ybus, rowOf, colOf, entryOf, at}
+use Rattle.network.specs.Network.{Triplets}
+use Rattle.injections.specs.Injections.{rowOf, colOf, entryOf, at}
 
 -- a triplet on the diagonal, of admittance y: v the bus's voltage, c its current, u its voltage of magnitude one.
 -- ((j v) conj(c - y v)) and ((v conj(y)) conj(u)) + (conj(c) u)
@@ -57,14 +58,14 @@ abbrev pub unitAt : List Float → ℕ → Complex
 unitAt va b = polarOf one (getD va b nan)
 
 -- the two derivatives of triplet t
-abbrev pub derivativesAt : Ybus → List Float → Phasors → ℕ → Derivatives
+abbrev pub derivativesAt : Triplets → List Float → Phasors → ℕ → Derivatives
 derivativesAt y va s t =
     let a = rowOf y t in
     let b = colOf y t in
     derivativesOf a b (entryOf y t) (at (s .v) a) (at (s .i) a) (at (s .v) b) (unitAt va b)
 
 -- the workspace after the first k triplets
-unfoldable pub jacobianTo : ℕ → Ybus → List Float → Phasors → AcPfLayout → List Float → List Float
+unfoldable pub jacobianTo : ℕ → Triplets → List Float → Phasors → AcPfLayout → List Float → List Float
 unfolding derivativesOf enteredAll
 jacobianTo zero y va s l w = w
 jacobianTo (suc k) y va s l w =
@@ -73,5 +74,5 @@ jacobianTo (suc k) y va s l w =
     enteredAll (getD (l .«p_of») a 0) (getD (l .«q_of») a 0) (getD (l .«va_of») b 0) (getD (l .«vm_of») b 0) (derivativesAt y va s k) (jacobianTo k y va s l w)
 
 -- and after all of them
-abbrev pub jacobianOf : Ybus → List Float → Phasors → AcPfLayout → List Float → List Float
+abbrev pub jacobianOf : Triplets → List Float → Phasors → AcPfLayout → List Float → List Float
 jacobianOf y va s l w = jacobianTo (length (y .row)) y va s l w

@@ -2,8 +2,9 @@
 ghost use mathlib.Core.Path.{_≡_};
 ghost use Prim.Native.Nat.{_<_, _≤_};
 ghost use lib.ListN.{length, getD};
-ghost use Rattle.layout.specs.Table.{Below};
-ghost use Rattle.injections.specs.Injections.{Ybus, ybus, GoodTriplets, voltagesOf, currentsTo, phasorsOf, injectedOf, injectionsOf};
+ghost use Rattle.network.specs.Below.{Below};
+ghost use Rattle.network.specs.Network.{Triplets, tripletsOf};
+ghost use Rattle.injections.specs.Injections.{GoodTriplets, voltagesOf, currentsTo, phasorsOf, injectedOf, injectionsOf};
 ghost use Rattle.injections.specs.Jacobian.{onDiagonal, offDiagonal, derivativesOf, entered, enteredRow, enteredAll, jacobianOf};
 use complex::Complex;
 use layout::AcPfLayout;
@@ -69,8 +70,8 @@ fn currents(
     y_im: &[f64],
     v: Column,
 ) -> Column
-    ghost { Ybus }
-    requires { λ y. ⌜ ybus (now «y_row») (now «y_col») (now «y_re») (now «y_im») ≡ y ⌝ }
+    ghost { Triplets }
+    requires { λ y. ⌜ tripletsOf (now «y_row») (now «y_col») (now «y_re») (now «y_im») ≡ y ⌝ }
     requires { λ y. ⌜ GoodTriplets n y ⌝ }
     ensures { λ y r. ⌜ r ≡ currentsTo (length (y .row)) y v ⌝ }
 {
@@ -97,8 +98,8 @@ pub fn bus_phasors(
     vm: [f64; 32],
     va: [f64; 32],
 ) -> Phasors
-    ghost { Ybus }
-    requires { λ y. ⌜ ybus (now «y_row») (now «y_col») (now «y_re») (now «y_im») ≡ y ⌝ }
+    ghost { Triplets }
+    requires { λ y. ⌜ tripletsOf (now «y_row») (now «y_col») (now «y_re») (now «y_im») ≡ y ⌝ }
     requires { λ y. ⌜ GoodTriplets n y ⌝ }
     ensures { λ y r. ⌜ r ≡ phasorsOf n y vm va ⌝ }
 {
@@ -135,8 +136,8 @@ pub fn ac_injections(
     vm: [f64; 32],
     va: [f64; 32],
 ) -> Injections
-    ghost { Ybus }
-    requires { λ y. ⌜ ybus (now «y_row») (now «y_col») (now «y_re») (now «y_im») ≡ y ⌝ }
+    ghost { Triplets }
+    requires { λ y. ⌜ tripletsOf (now «y_row») (now «y_col») (now «y_re») (now «y_im») ≡ y ⌝ }
     requires { λ y. ⌜ GoodTriplets n y ⌝ }
     ensures { λ y r. ⌜ r ≡ injectionsOf n y vm va ⌝ }
 {
@@ -233,8 +234,8 @@ pub fn ac_jacobian(
     layout: AcPfLayout,
     w: &mut [f64],
 )
-    ghost { Ybus }
-    requires { λ y. ⌜ ybus (now «y_row») (now «y_col») (now «y_re») (now «y_im») ≡ y ⌝ }
+    ghost { Triplets }
+    requires { λ y. ⌜ tripletsOf (now «y_row») (now «y_col») (now «y_re») (now «y_im») ≡ y ⌝ }
     requires { λ y. ⌜ GoodTriplets n y × (4160 ≤ length (now w)) ⌝ }
     ensures { λ y _. ⌜ now (w .exit) ≡ jacobianOf y va s layout (now (w .entry)) ⌝ }
 {

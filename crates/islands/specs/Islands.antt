@@ -94,5 +94,5 @@ unfolding each
 labelsOf n from to = let g = islandOf from to in each n (labelBy g)
 
 -- n labels in a table of 32; places past n are 0
-abbrev pub tableOf : ℕ → List ℕ → List ℕ
-tableOf n l = l ++ replicate (32 - n) 0
+abbrev pub labelTable : ℕ → List ℕ → List ℕ
+labelTable n l = l ++ replicate (32 - n) 0

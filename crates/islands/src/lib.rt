@@ -3,7 +3,7 @@ ghost use mathlib.Core.Path.{_≡_};
 ghost use Prim.Native.Nat.{ℕ, _<_, _≤_};
 ghost use Rattle.real.specs.Each.{each};
 ghost use Rattle.islands.specs.Forest.{Forest, Grown, joinedRoot, orInsert};
-ghost use Rattle.islands.specs.Islands.{Ends, islandOf, labelBy, labelsOf, tableOf};
+ghost use Rattle.islands.specs.Islands.{Ends, islandOf, labelBy, labelsOf, labelTable};
 
 // The root above `node`. Each bus passed is hung one place higher on the way.
 fn find(parent: &mut [usize; 32], node: usize) -> usize
@@ -77,7 +77,7 @@ fn or_insert(label: Labels, root: usize) -> Labels
 
 fn label_all(n: usize, parent: [usize; 32]) -> [usize; 32]
     requires { ⌜ (n ≤ 32) × Grown parent ⌝ }
-    ensures { λ r. ⌜ ((rank root : ℕ → ℕ) → Forest rank root parent → r ≡ tableOf n (each n (labelBy root))) ⌝ }
+    ensures { λ r. ⌜ ((rank root : ℕ → ℕ) → Forest rank root parent → r ≡ labelTable n (each n (labelBy root))) ⌝ }
 {
     let mut parent = parent;
     let mut label = Labels {
@@ -96,7 +96,7 @@ fn label_all(n: usize, parent: [usize; 32]) -> [usize; 32]
 
 pub fn dense_islands(n: usize, br_from: &[usize], br_to: &[usize]) -> [usize; 32]
     requires { ⌜ (n ≤ 32) × Ends n (now «br_from») (now «br_to») ⌝ }
-    ensures { λ r. ⌜ r ≡ tableOf n (labelsOf n (now («br_from» .entry)) (now («br_to» .entry))) ⌝ }
+    ensures { λ r. ⌜ r ≡ labelTable n (labelsOf n (now («br_from» .entry)) (now («br_to» .entry))) ⌝ }
 {
     label_all(n, join_all(br_from, br_to))
 }

@@ -2,7 +2,8 @@
 ghost use mathlib.Core.Path.{_≡_};
 ghost use Prim.Native.Nat.{_+_, _<_, _≤_};
 ghost use lib.ListN.{length, getD};
-ghost use Rattle.layout.specs.Table.{table, Below, allBelow};
+ghost use Rattle.network.specs.Below.{Below};
+ghost use Rattle.layout.specs.Table.{table};
 ghost use Rattle.layout.specs.Kinds.{flagKind, kindsOf};
 ghost use Rattle.layout.specs.Layout.{none, angleCol, nextAngle, angleAt, angleCount, magnitudeCol, nextMagnitude, magnitudeAt, magnitudeCount, layoutOf, kindIn};
 ghost use Rattle.layout.specs.Residual.{powers, missing, atRow, residualOf};
@@ -271,17 +272,6 @@ impl AcPfLayout {
 }
 
 // ---- limits
-
-// Whether each number of a column is below n.
-pub fn below(n: usize, l: &[usize]) -> bool
-    ensures { λ r. ⌜ r ≡ allBelow (length (now (l .entry))) n (now (l .entry)) ⌝ }
-{
-    let mut ok = true;
-    for i in 0..l.len() {
-        ok = real::and(ok, l[i] < n);
-    }
-    ok
-}
 
 // The limits of all generators at a bus, summed in generator order.
 pub fn aggregate_q(gen_bus: &[usize], qmin: &[f64], qmax: &[f64]) -> Limits

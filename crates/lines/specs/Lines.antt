@@ -17,41 +17,41 @@ decimalBy zero n = []
 decimalBy (suc k) n = cond (ltb n 10) (glyph n ∷ []) (decimalBy k (n / 10) ++ (glyph (n % 10) ∷ []))
 
 -- a 64-bit number has at most 20
-abbrev pub decimalOf : ℕ → List ℕ
-decimalOf n = decimalBy 20 n
+abbrev pub printedDecimal : ℕ → List ℕ
+printedDecimal n = decimalBy 20 n
 
 -- "A printed NaN is `nan`; other reals print as 16 lower-case hexadecimal digits of their bits."
-unfoldable pub realOf : Float → List ℕ
-realOf x = cond (isNan x) (110 ∷ 97 ∷ 110 ∷ []) (digits 16 16 (toBits binary64 x))
+unfoldable pub printedReal : Float → List ℕ
+printedReal x = cond (isNan x) (110 ∷ 97 ∷ 110 ∷ []) (digits 16 16 (toBits binary64 x))
 
 -- "places and counts in decimal, mismatch as a real", each after a space
-abbrev pub valueOf : Value → List ℕ
-valueOf (whole n) = (32 ∷ []) ++ decimalOf n
-valueOf (real x) = (32 ∷ []) ++ realOf x
+abbrev pub printedValue : Value → List ℕ
+printedValue (whole n) = (32 ∷ []) ++ printedDecimal n
+printedValue (real x) = (32 ∷ []) ++ printedReal x
 
 -- `ok`, "iterations, residual", LF
-unfoldable pub okOf : ℕ → Float → List ℕ
-okOf iterations residual = (111 ∷ 107 ∷ []) ++ valueOf (whole iterations) ++ valueOf (real residual) ++ (10 ∷ [])
+unfoldable pub okLine : ℕ → Float → List ℕ
+okLine iterations residual = (111 ∷ 107 ∷ []) ++ printedValue (whole iterations) ++ printedValue (real residual) ++ (10 ∷ [])
 
 -- "Then per bus: number, kind (S, V, Q), vm, va, p, q."
-unfoldable pub busOf : ℕ → ℕ → Float → Float → Float → Float → List ℕ
-busOf bus kind vm va p q = decimalOf bus ++ (32 ∷ []) ++ (kind ∷ []) ++ valueOf (real vm) ++ valueOf (real va) ++ valueOf (real p) ++ valueOf (real q) ++ (10 ∷ [])
+unfoldable pub busLine : ℕ → ℕ → Float → Float → Float → Float → List ℕ
+busLine bus kind vm va p q = printedDecimal bus ++ (32 ∷ []) ++ (kind ∷ []) ++ printedValue (real vm) ++ printedValue (real va) ++ printedValue (real p) ++ printedValue (real q) ++ (10 ∷ [])
 
 -- the lines of the first n buses
-unfoldable pub busesOf : ℕ → List Float → List Float → List Float → List Float → List ℕ → List ℕ
-busesOf zero vm va p q kinds = []
-busesOf (suc b) vm va p q kinds = busesOf b vm va p q kinds ++ busOf b (getD kinds b 0) (getD vm b nan) (getD va b nan) (getD p b nan) (getD q b nan)
+unfoldable pub busLines : ℕ → List Float → List Float → List Float → List Float → List ℕ → List ℕ
+busLines zero vm va p q kinds = []
+busLines (suc b) vm va p q kinds = busLines b vm va p q kinds ++ busLine b (getD kinds b 0) (getD vm b nan) (getD va b nan) (getD p b nan) (getD q b nan)
 
-unfoldable pub valuesOf : List Value → List ℕ
-valuesOf [] = []
-valuesOf (v ∷ vs) = valueOf v ++ valuesOf vs
+unfoldable pub printedValues : List Value → List ℕ
+printedValues [] = []
+printedValues (v ∷ vs) = printedValue v ++ printedValues vs
 
 -- "`refused`, number, then the values of its table row"
 abbrev pub headOf : ℕ → List ℕ
-headOf number = (114 ∷ 101 ∷ 102 ∷ 117 ∷ 115 ∷ 101 ∷ 100 ∷ []) ++ valueOf (whole number)
+headOf number = (114 ∷ 101 ∷ 102 ∷ 117 ∷ 115 ∷ 101 ∷ 100 ∷ []) ++ printedValue (whole number)
 
-unfoldable pub refusedOf : ℕ → List Value → List ℕ
-refusedOf number values = headOf number ++ valuesOf values ++ (10 ∷ [])
+unfoldable pub refusedLine : ℕ → List Value → List ℕ
+refusedLine number values = headOf number ++ printedValues values ++ (10 ∷ [])
 
 -- bytes written into a buffer from a place on: the place after them, and the buffer
 pub record Wrote (before : List ℕ) (at : ℕ) (bytes : List ℕ) (end : ℕ) (after : List ℕ) : Type 0 where

@@ -3,7 +3,7 @@ ghost use mathlib.Core.List.{[], _∷_};
 ghost use Prim.Native.Nat.{_+_, _*_, _≤_};
 ghost use lib.ListN.{length};
 ghost use Rattle.real.specs.Paper.{whole, real};
-ghost use Rattle.lines.specs.Lines.{Wrote, decimalOf, realOf, valueOf, okOf, busOf, busesOf, headOf, refusedOf};
+ghost use Rattle.lines.specs.Lines.{Wrote, printedDecimal, printedReal, printedValue, okLine, busLine, busLines, headOf, refusedLine};
 
 fn put(src: &[u8], at: usize, out: &mut [u8]) -> usize
     requires { ⌜ at + length (now src) ≤ length (now out) ⌝ }
@@ -26,7 +26,7 @@ fn put_byte(b: u8, at: usize, out: &mut [u8]) -> usize
 // A whole number in decimal: at most 20 digits.
 fn put_decimal(n: usize, at: usize, out: &mut [u8]) -> usize
     requires { ⌜ at + 20 ≤ length (now out) ⌝ }
-    ensures { λ r. ⌜ Wrote (now (out .entry)) at (decimalOf n) r (now (out .exit)) × (r ≤ at + 20) ⌝ }
+    ensures { λ r. ⌜ Wrote (now (out .entry)) at (printedDecimal n) r (now (out .exit)) × (r ≤ at + 20) ⌝ }
 {
     let mut text = [0u8; 20];
     let k = io::decimal(n as u64, &mut text);
@@ -36,7 +36,7 @@ fn put_decimal(n: usize, at: usize, out: &mut [u8]) -> usize
 // A real: `nan`, or the 16 hexadecimal digits of its bits.
 fn put_real(x: f64, at: usize, out: &mut [u8]) -> usize
     requires { ⌜ at + 16 ≤ length (now out) ⌝ }
-    ensures { λ r. ⌜ Wrote (now (out .entry)) at (realOf x) r (now (out .exit)) × (r ≤ at + 16) ⌝ }
+    ensures { λ r. ⌜ Wrote (now (out .entry)) at (printedReal x) r (now (out .exit)) × (r ≤ at + 16) ⌝ }
 {
     if x != x {
         return put(b"nan", at, out);
@@ -49,7 +49,7 @@ fn put_real(x: f64, at: usize, out: &mut [u8]) -> usize
 // A space and a real.
 fn put_gap(x: f64, at: usize, out: &mut [u8]) -> usize
     requires { ⌜ at + 17 ≤ length (now out) ⌝ }
-    ensures { λ r. ⌜ Wrote (now (out .entry)) at (valueOf (real x)) r (now (out .exit)) × (r ≤ at + 17) ⌝ }
+    ensures { λ r. ⌜ Wrote (now (out .entry)) at (printedValue (real x)) r (now (out .exit)) × (r ≤ at + 17) ⌝ }
 {
     let k = put_byte(b' ', at, out);
     put_real(x, k, out)
@@ -58,7 +58,7 @@ fn put_gap(x: f64, at: usize, out: &mut [u8]) -> usize
 // A space and a whole number.
 fn put_count(n: usize, at: usize, out: &mut [u8]) -> usize
     requires { ⌜ at + 21 ≤ length (now out) ⌝ }
-    ensures { λ r. ⌜ Wrote (now (out .entry)) at (valueOf (whole n)) r (now (out .exit)) × (r ≤ at + 21) ⌝ }
+    ensures { λ r. ⌜ Wrote (now (out .entry)) at (printedValue (whole n)) r (now (out .exit)) × (r ≤ at + 21) ⌝ }
 {
     let k = put_byte(b' ', at, out);
     put_decimal(n, k, out)
@@ -67,7 +67,7 @@ fn put_count(n: usize, at: usize, out: &mut [u8]) -> usize
 // The first line of a solved case.
 pub fn put_ok(iterations: usize, residual: f64, out: &mut [u8]) -> usize
     requires { ⌜ 41 ≤ length (now out) ⌝ }
-    ensures { λ r. ⌜ Wrote (now (out .entry)) 0 (okOf iterations residual) r (now (out .exit)) × (r ≤ 41) ⌝ }
+    ensures { λ r. ⌜ Wrote (now (out .entry)) 0 (okLine iterations residual) r (now (out .exit)) × (r ≤ 41) ⌝ }
 {
     let a = put(b"ok", 0, out);
     let b = put_count(iterations, a, out);
@@ -87,7 +87,7 @@ fn put_bus(
     out: &mut [u8],
 ) -> usize
     requires { ⌜ at + 91 ≤ length (now out) ⌝ }
-    ensures { λ r. ⌜ Wrote (now (out .entry)) at (busOf bus kind vm va p q) r (now (out .exit)) × (r ≤ at + 91) ⌝ }
+    ensures { λ r. ⌜ Wrote (now (out .entry)) at (busLine bus kind vm va p q) r (now (out .exit)) × (r ≤ at + 91) ⌝ }
 {
     let a = put_decimal(bus, at, out);
     let b = put_byte(b' ', a, out);
@@ -111,7 +111,7 @@ pub fn put_buses(
     out: &mut [u8],
 ) -> usize
     requires { ⌜ (n ≤ length (now vm)) × (n ≤ length (now va)) × (n ≤ length (now p)) × (n ≤ length (now q)) × (n ≤ length (now kinds)) × (at + 91 * n ≤ length (now out)) ⌝ }
-    ensures { λ r. ⌜ Wrote (now (out .entry)) at (busesOf n (now (vm .entry)) (now (va .entry)) (now (p .entry)) (now (q .entry)) (now (kinds .entry))) r (now (out .exit)) × (r ≤ at + 91 * n) ⌝ }
+    ensures { λ r. ⌜ Wrote (now (out .entry)) at (busLines n (now (vm .entry)) (now (va .entry)) (now (p .entry)) (now (q .entry)) (now (kinds .entry))) r (now (out .exit)) × (r ≤ at + 91 * n) ⌝ }
 {
     let mut k = at;
     for b in 0..n {
@@ -132,7 +132,7 @@ fn put_head(number: usize, out: &mut [u8]) -> usize
 // A refusal with nothing beside its number.
 pub fn put_bare(number: usize, out: &mut [u8]) -> usize
     requires { ⌜ 29 ≤ length (now out) ⌝ }
-    ensures { λ r. ⌜ Wrote (now (out .entry)) 0 (refusedOf number []) r (now (out .exit)) × (r ≤ 29) ⌝ }
+    ensures { λ r. ⌜ Wrote (now (out .entry)) 0 (refusedLine number []) r (now (out .exit)) × (r ≤ 29) ⌝ }
 {
     let a = put_head(number, out);
     put_byte(b'\n', a, out)
@@ -141,7 +141,7 @@ pub fn put_bare(number: usize, out: &mut [u8]) -> usize
 // A refusal with a place of the text.
 pub fn put_placed(number: usize, place: usize, out: &mut [u8]) -> usize
     requires { ⌜ 50 ≤ length (now out) ⌝ }
-    ensures { λ r. ⌜ Wrote (now (out .entry)) 0 (refusedOf number (whole place ∷ [])) r (now (out .exit)) × (r ≤ 50) ⌝ }
+    ensures { λ r. ⌜ Wrote (now (out .entry)) 0 (refusedLine number (whole place ∷ [])) r (now (out .exit)) × (r ≤ 50) ⌝ }
 {
     let a = put_head(number, out);
     let b = put_count(place, a, out);
@@ -151,7 +151,7 @@ pub fn put_placed(number: usize, place: usize, out: &mut [u8]) -> usize
 // A refusal with a mismatch and a count of starts.
 pub fn put_spent(number: usize, mismatch: f64, starts: usize, out: &mut [u8]) -> usize
     requires { ⌜ 67 ≤ length (now out) ⌝ }
-    ensures { λ r. ⌜ Wrote (now (out .entry)) 0 (refusedOf number (real mismatch ∷ whole starts ∷ [])) r (now (out .exit)) × (r ≤ 67) ⌝ }
+    ensures { λ r. ⌜ Wrote (now (out .entry)) 0 (refusedLine number (real mismatch ∷ whole starts ∷ [])) r (now (out .exit)) × (r ≤ 67) ⌝ }
 {
     let a = put_head(number, out);
     let b = put_gap(mismatch, a, out);

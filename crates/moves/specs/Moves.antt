@@ -80,10 +80,10 @@ pinOf Pv v hold = hold
 pinOf Pq v hold = v
 
 -- the kind as its letter's byte: S, V, Q
-abbrev pub letterOf : BusKind → ℕ
-letterOf Slack = 83
-letterOf Pv = 86
-letterOf Pq = 81
+abbrev pub kindLetter : BusKind → ℕ
+kindLetter Slack = 83
+kindLetter Pv = 86
+kindLetter Pq = 81
 
 -- ---- all buses
 
@@ -133,14 +133,14 @@ schedAt Pq q = q
 unfoldable pub scheduleOf : ℕ → List BusKind → List Float → List Float
 scheduleOf n kinds q = table n nought (λ b. schedAt (kindOf kinds b) (getD q b nan))
 
-abbrev pub kindAt : BusKind → KindAt
-kindAt k = record { kind = k }
+abbrev pub asKindAt : BusKind → KindAt
+asKindAt k = record { kind = k }
 
 unfoldable pub keptKinds : ℕ → List BusKind → List KindAt
-keptKinds n kinds = table n (kindAt Slack) (λ b. kindAt (kindOf kinds b))
+keptKinds n kinds = table n (asKindAt Slack) (λ b. asKindAt (kindOf kinds b))
 
 abbrev pub keptKind : List KindAt → ℕ → BusKind
-keptKind kinds b = getD kinds b (kindAt Slack) .kind
+keptKind kinds b = getD kinds b (asKindAt Slack) .kind
 
 unfoldable pub lettersOf : ℕ → List KindAt → List ℕ
-lettersOf n kinds = table n 0 (λ b. letterOf (keptKind kinds b))
+lettersOf n kinds = table n 0 (λ b. kindLetter (keptKind kinds b))

@@ -7,7 +7,7 @@ use real::V_BACK;
 ghost use mathlib.Core.Path.{_≡_};
 ghost use Prim.Native.Nat.{_≤_};
 ghost use lib.ListN.{length};
-ghost use Rattle.moves.specs.Moves.{movePv, movePq, moveOf, isMove, kindAfter, schedAfter, convertedAfter, revertedAfter, pinOf, schedAt, letterOf};
+ghost use Rattle.moves.specs.Moves.{movePv, movePq, moveOf, isMove, kindAfter, schedAfter, convertedAfter, revertedAfter, pinOf, schedAt, kindLetter};
 ghost use Rattle.moves.specs.Moves.{movesOf, anyGenerator, anyMove, kindsAfter, trackAfter, pinned, scheduleOf, keptKinds, lettersOf};
 
 // A kind in a struct of its own: a field can be an array of these, and not one of enums.
@@ -166,7 +166,7 @@ fn sched_at(k: BusKind, q: f64) -> f64
 }
 
 fn letter_of(k: BusKind) -> u8
-    ensures { λ r. ⌜ r ≡ letterOf k ⌝ }
+    ensures { λ r. ⌜ r ≡ kindLetter k ⌝ }
 {
     match k {
         BusKind::Slack => b'S',

@@ -9,11 +9,11 @@ use lib.ListN.{length}
 use Rattle.real.specs.Tests.{both}
 use Rattle.network.specs.declared.Rows.{Rows}
 use Rattle.network.specs.Below.{Below, allBelow}
-use Rattle.network.specs.Network.{Buses, Slacks, Generators, Branches, Triplets, Network, busCount, rowsOf}
+use Rattle.network.specs.Network.{Buses, Slacks, Generators, Branches, Triplets, Network, busCount, rowCounts}
 
 -- "Buses 0 to 32, slack rows 0 to 32, generators 0 to 32, branches 0 to 64, triplets 0 to 256"
 abbrev pub sizes : Rows
-sizes = rowsOf 32 32 32 64 256
+sizes = rowCounts 32 32 32 64 256
 
 -- ---- as tests
 

@@ -79,8 +79,8 @@ networkOf buses slacks generators branches triplets =
 abbrev pub busCount : Network → ℕ
 busCount t = length (t .buses .kind)
 
-abbrev pub rowsOf : ℕ → ℕ → ℕ → ℕ → ℕ → Rows
-rowsOf buses slacks generators branches triplets =
+abbrev pub rowCounts : ℕ → ℕ → ℕ → ℕ → ℕ → Rows
+rowCounts buses slacks generators branches triplets =
     record { buses = buses; slacks = slacks; generators = generators; branches = branches; triplets = triplets }
 
 -- how many rows a table has room for: the places of its shortest column
@@ -102,7 +102,7 @@ abbrev pub tripletsRoom : Triplets → ℕ
 tripletsRoom t = min (min (length (t .row)) (length (t .col))) (min (length (t .re)) (length (t .im)))
 
 abbrev pub roomOf : Network → Rows
-roomOf t = rowsOf (busesRoom (t .buses)) (slacksRoom (t .slacks)) (generatorsRoom (t .generators)) (branchesRoom (t .branches)) (tripletsRoom (t .triplets))
+roomOf t = rowCounts (busesRoom (t .buses)) (slacksRoom (t .slacks)) (generatorsRoom (t .generators)) (branchesRoom (t .branches)) (tripletsRoom (t .triplets))
 
 -- a place for each of n rows in every column of a table
 pub record RoomBuses (n : ℕ) (t : Buses) : Type 0 where

@@ -13,7 +13,8 @@ use Rattle.layout.specs.Residual.{powers, residualOf}
 use Rattle.linsolve.specs.declared.Solution.{Solution}
 use Rattle.linsolve.specs.declared.Solution.the-variants as Solution
 use Rattle.linsolve.specs.Linear.{Outcome, answerOf, spaceOf, cleared, withSides, solution}
-use Rattle.injections.specs.Injections.{Ybus, GoodTriplets, injectionsOf}
+use Rattle.network.specs.Network.{Triplets}
+use Rattle.injections.specs.Injections.{GoodTriplets, injectionsOf}
 use Rattle.injections.specs.Jacobian.{jacobianOf}
 use Rattle.layout.specs.declared.Point.{Point}
 use Rattle.newton.specs.declared.Measured.{Measured}
@@ -25,14 +26,14 @@ use Rattle.newton.specs.Step.{stepOf, unfitTo}
 
 -- what stays the same through a run: the triplets, the layout, demands and scheduled generation
 pub record Problem : Type 0 where
-  pub y : Ybus
+  pub y : Triplets
   pub layout : AcPfLayout
   pub pd : List Float
   pub qd : List Float
   pub pg : List Float
   pub qg : List Float
 
-abbrev pub problem : Ybus → AcPfLayout → List Float → List Float → List Float → List Float → Problem
+abbrev pub problem : Triplets → AcPfLayout → List Float → List Float → List Float → List Float → Problem
 problem y layout pd qd pg qg = record { y = y; layout = layout; pd = pd; qd = qd; pg = pg; qg = qg }
 
 -- what the callers have checked
@@ -57,7 +58,7 @@ abbrev pub sidesTo : ℕ → List Float → List Float → List Float
 sidesTo n r w = withSides n (λ k. getD r k nan) w
 
 -- the Jacobian's entries added to a zero matrix, and the linear solve
-unfoldable pub directionOf : Ybus → AcPfLayout → List Float → Measured → List Float → Outcome
+unfoldable pub directionOf : Triplets → AcPfLayout → List Float → Measured → List Float → Outcome
 directionOf y l va m w = solution (l .dim) (sidesTo (l .dim) (m .r) (jacobianOf y va (m .phasors) l (cleared (l .dim) w)))
 
 -- ---- the length. `at` measures a point
@@ -107,7 +108,7 @@ bySolution Solution.Solved f r = r
 bySolution (Solution.Singular c) f r = f c
 
 -- the next k steps, of which `it` are done
-unfoldable pub stepsFrom : ℕ → ℕ → (Point → Measured) → Ybus → AcPfLayout → Point → Measured → List Float → Run
+unfoldable pub stepsFrom : ℕ → ℕ → (Point → Measured) → Triplets → AcPfLayout → Point → Measured → List Float → Run
 stepsFrom zero it at y l p m w = run (ended p 49 m (lastEnding (m .residual))) w
 stepsFrom (suc k) it at y l p m w =
     let o = directionOf y l (p .va) m w in

@@ -9,7 +9,8 @@ ghost use Prim.Native.Nat.{_≤_};
 ghost use lib.ListN.{length};
 ghost use Rattle.real.specs.Literals.{one};
 ghost use Rattle.linsolve.specs.Linear.{outcome};
-ghost use Rattle.injections.specs.Injections.{Ybus, ybus, GoodTriplets};
+ghost use Rattle.network.specs.Network.{Triplets, tripletsOf};
+ghost use Rattle.injections.specs.Injections.{GoodTriplets};
 ghost use Rattle.newton.specs.Step.{movedBy, stepOf, unfitAt, unfitTo};
 ghost use Rattle.newton.specs.Newton.{Problem, problem, GoodProblem, measuredOf, sidesTo, directionOf, attemptOf, triesFrom, lastEnding, run, newtonOf};
 
@@ -111,7 +112,7 @@ fn measure(
     p: Point,
 ) -> Measured
     ghost { Problem }
-    requires { λ g. ⌜ problem (ybus (now «y_row») (now «y_col») (now «y_re») (now «y_im»)) layout (now pd) (now qd) (now pg) qg ≡ g ⌝ }
+    requires { λ g. ⌜ problem (tripletsOf (now «y_row») (now «y_col») (now «y_re») (now «y_im»)) layout (now pd) (now qd) (now pg) qg ≡ g ⌝ }
     requires { λ g. ⌜ GoodProblem g ⌝ }
     ensures { λ g r. ⌜ r ≡ measuredOf g p ⌝ }
 {
@@ -157,8 +158,8 @@ fn direction(
     m: Measured,
     w: &mut [f64],
 ) -> Solution
-    ghost { Ybus }
-    requires { λ y. ⌜ ybus (now «y_row») (now «y_col») (now «y_re») (now «y_im») ≡ y ⌝ }
+    ghost { Triplets }
+    requires { λ y. ⌜ tripletsOf (now «y_row») (now «y_col») (now «y_re») (now «y_im») ≡ y ⌝ }
     requires { λ y. ⌜ GoodTriplets (layout .n) y × (layout .dim ≤ 64) × (4160 ≤ length (now w)) ⌝ }
     ensures { λ y s. ⌜ outcome s (now (w .exit)) ≡ directionOf y layout va m (now (w .entry)) ⌝ }
 {
@@ -191,7 +192,7 @@ fn attempt(
     alpha: f64,
 ) -> Trial
     ghost { Problem }
-    requires { λ g. ⌜ problem (ybus (now «y_row») (now «y_col») (now «y_re») (now «y_im»)) layout (now pd) (now qd) (now pg) qg ≡ g ⌝ }
+    requires { λ g. ⌜ problem (tripletsOf (now «y_row») (now «y_col») (now «y_re») (now «y_im»)) layout (now pd) (now qd) (now pg) qg ≡ g ⌝ }
     requires { λ g. ⌜ GoodProblem g × (4160 ≤ length (now w)) ⌝ }
     ensures { λ g r. ⌜ r ≡ attemptOf (measuredOf g) layout p m (now (w .entry)) alpha ⌝ }
 {
@@ -235,7 +236,7 @@ fn search(
     w: &[f64],
 ) -> Trial
     ghost { Problem }
-    requires { λ g. ⌜ problem (ybus (now «y_row») (now «y_col») (now «y_re») (now «y_im»)) layout (now pd) (now qd) (now pg) qg ≡ g ⌝ }
+    requires { λ g. ⌜ problem (tripletsOf (now «y_row») (now «y_col») (now «y_re») (now «y_im»)) layout (now pd) (now qd) (now pg) qg ≡ g ⌝ }
     requires { λ g. ⌜ GoodProblem g × (4160 ≤ length (now w)) ⌝ }
     ensures { λ g r. ⌜ r ≡ triesFrom 12 (measuredOf g) layout p m (now (w .entry)) one ⌝ }
 {
@@ -295,7 +296,7 @@ pub fn newton(
     w: &mut [f64],
 ) -> Ended
     ghost { Problem }
-    requires { λ g. ⌜ problem (ybus (now «y_row») (now «y_col») (now «y_re») (now «y_im»)) layout (now pd) (now qd) (now pg) qg ≡ g ⌝ }
+    requires { λ g. ⌜ problem (tripletsOf (now «y_row») (now «y_col») (now «y_re») (now «y_im»)) layout (now pd) (now qd) (now pg) qg ≡ g ⌝ }
     requires { λ g. ⌜ GoodProblem g × (4160 ≤ length (now w)) ⌝ }
     ensures { λ g r. ⌜ run r (now (w .exit)) ≡ newtonOf g start (now (w .entry)) ⌝ }
 {

@@ -12,30 +12,30 @@ use Rattle.layout.specs.declared.Point.{Point}
 use Rattle.starts.specs.declared.References.{References}
 use Rattle.starts.specs.Starts.{caseOf, fromFlat}
 use Rattle.qlim.specs.declared.Settled.{Settled}
-use Rattle.qlim.specs.Rounds.{Study, Done, nothing, settledOf, spaceDone, qlimOf}
+use Rattle.qlim.specs.Rounds.{Study, Done, nothing, settledIn, spaceDone, qlimOf}
 use Rattle.starts.specs.declared.AcStart.{AcStart}
 use Rattle.starts.specs.declared.AcStart.the-variants.{Flat, Case}
 use Rattle.pf_ac.specs.declared.AcPf.{AcPf}
 use Rattle.pf_ac.specs.declared.AcPf.the-variants.{Solved, NotConverged}
 
 -- the first start: the stored state if chosen, else the flat one
-abbrev pub firstOf : AcStart → ℕ → List Float → List Float → List Float → References → Point → Point
-firstOf Flat n set vm va r flat = flat
-firstOf Case n set vm va r flat = caseOf n set vm va r
+abbrev pub firstStart : AcStart → ℕ → List Float → List Float → List Float → References → Point → Point
+firstStart Flat n set vm va r flat = flat
+firstStart Case n set vm va r flat = caseOf n set vm va r
 
 -- start i: after the first, those from the flat one on
 abbrev pub laterOf : AcStart → ℕ → List BusKind → Point → ℕ → Point
 laterOf Flat n kinds flat i = fromFlat n kinds flat (suc i)
 laterOf Case n kinds flat i = fromFlat n kinds flat i
 
-unfoldable pub startOf : AcStart → ℕ → List BusKind → Point → Point → ℕ → Point
-startOf start n kinds first flat zero = first
-startOf start n kinds first flat (suc i) = laterOf start n kinds flat i
+unfoldable pub nthStart : AcStart → ℕ → List BusKind → Point → Point → ℕ → Point
+nthStart start n kinds first flat zero = first
+nthStart start n kinds first flat (suc i) = laterOf start n kinds flat i
 
 -- 5 flat, 6 case
-abbrev pub countOf : AcStart → ℕ
-countOf Flat = 5
-countOf Case = 6
+abbrev pub startCount : AcStart → ℕ
+startCount Flat = 5
+startCount Case = 6
 
 -- whether a result replaces the one kept
 unfoldable pub betterOf : Bool → Float → Float → Bool
@@ -49,22 +49,22 @@ abbrev pub solved : Settled → AcPf
 solved s = Solved (s .ended .iterations) (s .residual)
 
 -- what the residual and the iterations of the result kept make of the search
-abbrev pub judgedOf : Float → ℕ → ℕ → AcPf
-judgedOf res iterations starts = cond (lt res tolerance) (Solved iterations res) (NotConverged res starts)
+abbrev pub verdictOf : Float → ℕ → ℕ → AcPf
+verdictOf res iterations starts = cond (lt res tolerance) (Solved iterations res) (NotConverged res starts)
 
 -- "The first below 1e-8 ends the search": what a start's result d makes of the best so far; else `rest` goes on with the one kept
 unfoldable pub tryOf : Bool → Settled → Done → (Settled → List Float → Searched) → Searched
 tryOf first best d rest =
-    let s = settledOf d in
+    let s = settledIn d in
     let kept = cond (betterOf first (best .residual) (s .residual)) s best in
     cond (lt (kept .residual) tolerance) (searched (solved kept) kept (spaceDone d)) (rest kept (spaceDone d))
 
 -- the next m starts, of which i are tried
 unfoldable pub searchFrom : ℕ → ℕ → AcStart → Study → List BusKind → Point → Point → Settled → List Float → Searched
-searchFrom zero i start s kinds first flat best w = searched (NotConverged (best .residual) (countOf start)) best w
+searchFrom zero i start s kinds first flat best w = searched (NotConverged (best .residual) (startCount start)) best w
 searchFrom (suc m) i start s kinds first flat best w =
-    tryOf (eqb i 0) best (qlimOf s kinds (startOf start (s .n) kinds first flat i) w) (searchFrom m (i + 1) start s kinds first flat)
+    tryOf (eqb i 0) best (qlimOf s kinds (nthStart start (s .n) kinds first flat i) w) (searchFrom m (i + 1) start s kinds first flat)
 
 -- before the first start nothing is kept
 unfoldable pub searchOf : AcStart → Study → List BusKind → Point → Point → List Float → Searched
-searchOf start s kinds first flat w = searchFrom (countOf start) 0 start s kinds first flat (nothing first) w
+searchOf start s kinds first flat w = searchFrom (startCount start) 0 start s kinds first flat (nothing first) w

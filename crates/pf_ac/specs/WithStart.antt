@@ -19,7 +19,7 @@ use Rattle.starts.specs.References.{referencesOf}
 use Rattle.starts.specs.Starts.{flatOf}
 use Rattle.qlim.specs.Rounds.{Study, study}
 use Rattle.starts.specs.declared.AcStart.{AcStart}
-use Rattle.pf_ac.specs.Search.{Searched, firstOf, searchOf}
+use Rattle.pf_ac.specs.Search.{Searched, firstStart, searchOf}
 
 -- ---- what the solve works on
 
@@ -46,7 +46,7 @@ abbrev pub flatFor : Network → Point
 flatFor t = flatOf (busCount t) (t .buses .vm-set) (referencesFor t)
 
 abbrev pub firstFor : AcStart → Network → Point
-firstFor start t = firstOf start (busCount t) (t .buses .vm-set) (t .buses .vm-case) (t .buses .va-case) (referencesFor t) (flatFor t)
+firstFor start t = firstStart start (busCount t) (t .buses .vm-set) (t .buses .vm-case) (t .buses .va-case) (referencesFor t) (flatFor t)
 
 -- the whole run, with the workspace that it leaves
 unfoldable pub acPfOf : AcStart → Network → List Float → Searched

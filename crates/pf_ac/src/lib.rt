@@ -12,10 +12,9 @@ ghost use lib.ListN.{length, getD};
 ghost use lib.Ieee.{nan};
 ghost use Rattle.real.specs.Literals.{nought};
 ghost use Rattle.layout.specs.Table.{table};
-ghost use Rattle.injections.specs.Injections.{ybus};
 ghost use Rattle.qlim.specs.Rounds.{Study, study, GoodStudy};
-ghost use Rattle.starts.specs.References.{Slacks};
-ghost use Rattle.pf_ac.specs.Search.{betterOf, firstOf, startOf, countOf, searched, judgedOf, searchOf};
+ghost use Rattle.starts.specs.References.{SlacksBelow};
+ghost use Rattle.pf_ac.specs.Search.{betterOf, firstStart, nthStart, startCount, searched, verdictOf, searchOf};
 ghost use Rattle.network.specs.Network.{Network, busesOf, slacksOf, generatorsOf, branchesOf, tripletsOf, networkOf};
 ghost use Rattle.network.specs.Checks.{WellIndexed};
 ghost use Rattle.pf_ac.specs.WithStart.{acPfOf};
@@ -43,8 +42,8 @@ fn first_start(
     r: References,
     flat: Point,
 ) -> Point
-    requires { ⌜ (n ≤ 32) × (n ≤ length (now «vm_set»)) × (n ≤ length (now «vm_case»)) × (n ≤ length (now «va_case»)) × Slacks n r ⌝ }
-    ensures { λ p. ⌜ p ≡ firstOf start n (now («vm_set» .entry)) (now («vm_case» .entry)) (now («va_case» .entry)) r flat ⌝ }
+    requires { ⌜ (n ≤ 32) × (n ≤ length (now «vm_set»)) × (n ≤ length (now «vm_case»)) × (n ≤ length (now «va_case»)) × SlacksBelow n r ⌝ }
+    ensures { λ p. ⌜ p ≡ firstStart start n (now («vm_set» .entry)) (now («vm_case» .entry)) (now («va_case» .entry)) r flat ⌝ }
 {
     match start {
         AcStart::Flat => flat,
@@ -62,7 +61,7 @@ fn start_at(
     i: usize,
 ) -> Point
     requires { ⌜ (n ≤ 32) × (i ≤ 32) ⌝ }
-    ensures { λ p. ⌜ p ≡ startOf start n kinds first flat i ⌝ }
+    ensures { λ p. ⌜ p ≡ nthStart start n kinds first flat i ⌝ }
 {
     if i == 0 {
         return first;
@@ -74,7 +73,7 @@ fn start_at(
 }
 
 fn start_count(start: AcStart) -> usize
-    ensures { λ r. ⌜ (r ≡ countOf start) × (r ≤ 6) ⌝ }
+    ensures { λ r. ⌜ (r ≡ startCount start) × (r ≤ 6) ⌝ }
 {
     match start {
         AcStart::Flat => 5,
@@ -101,8 +100,8 @@ fn better(first: bool, best: f64, res: f64) -> bool
 }
 
 // What the residual and the iterations of the result kept make of the search: solved, or not yet.
-fn judged(residual: f64, iterations: usize, starts: usize) -> AcPf
-    ensures { λ r. ⌜ r ≡ judgedOf residual iterations starts ⌝ }
+fn verdict(residual: f64, iterations: usize, starts: usize) -> AcPf
+    ensures { λ r. ⌜ r ≡ verdictOf residual iterations starts ⌝ }
 {
     if residual < TOL {
         return AcPf::Solved {
@@ -135,7 +134,7 @@ fn search(
     w: &mut [f64],
 ) -> Kept
     ghost { Study }
-    requires { λ s. ⌜ study n (ybus (now «y_row») (now «y_col») (now «y_re») (now «y_im»)) (now pd) (now qd) (now pg) qg limits «vm_hold» ≡ s ⌝ }
+    requires { λ s. ⌜ study n (tripletsOf (now «y_row») (now «y_col») (now «y_re») (now «y_im»)) (now pd) (now qd) (now pg) qg limits «vm_hold» ≡ s ⌝ }
     requires { λ s. ⌜ GoodStudy s × (4160 ≤ length (now w)) ⌝ }
     ensures { λ s r. ⌜ searched (r .found) (r .best) (now (w .exit)) ≡ searchOf start s kinds first flat (now (w .entry)) ⌝ }
 {
@@ -162,7 +161,7 @@ fn search(
         if better(i == 0, best.residual, s.residual) {
             best = s;
         }
-        let found = judged(best.residual, best.ended.iterations, count);
+        let found = verdict(best.residual, best.ended.iterations, count);
         let AcPf::NotConverged { .. } = found else {
             return Kept { found, best };
         };

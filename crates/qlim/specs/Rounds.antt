@@ -12,7 +12,8 @@ use Rattle.layout.specs.declared.BusKind.{BusKind}
 use Rattle.layout.specs.declared.BusKind.the-variants.{Slack}
 use Rattle.layout.specs.declared.Limits.{Limits}
 use Rattle.layout.specs.Layout.{layoutOf}
-use Rattle.injections.specs.Injections.{Ybus, GoodTriplets, injectionsOf}
+use Rattle.network.specs.Network.{Triplets}
+use Rattle.injections.specs.Injections.{GoodTriplets, injectionsOf}
 use Rattle.layout.specs.declared.Point.{Point}
 use Rattle.injections.specs.declared.Column.{Column}
 use Rattle.newton.specs.declared.Ended.{Ended}
@@ -21,12 +22,12 @@ use Rattle.newton.specs.Newton.{Problem, problem, Run, newtonOf, endedOf, space
 use Rattle.moves.specs.declared.Move.{Move}
 use Rattle.moves.specs.declared.Track.{Track}
 use Rattle.qlim.specs.declared.Settled.{Settled}
-use Rattle.moves.specs.Moves.{movesOf, anyMove, kindsAfter, trackAfter, pinned, scheduleOf, kindAt, keptKinds}
+use Rattle.moves.specs.Moves.{movesOf, anyMove, kindsAfter, trackAfter, pinned, scheduleOf, asKindAt, keptKinds}
 
 -- what stays the same through the rounds: demands, scheduled generation, the limits and the held voltages of the n buses
 pub record Study : Type 0 where
   pub n : ℕ
-  pub y : Ybus
+  pub y : Triplets
   pub pd : List Float
   pub qd : List Float
   pub pg : List Float
@@ -34,7 +35,7 @@ pub record Study : Type 0 where
   pub limits : Limits
   pub hold : List Float
 
-abbrev pub study : ℕ → Ybus → List Float → List Float → List Float → List Float → Limits → List Float → Study
+abbrev pub study : ℕ → Triplets → List Float → List Float → List Float → List Float → Limits → List Float → Study
 study n y pd qd pg qg limits hold = record { n = n; y = y; pd = pd; qd = qd; pg = pg; qg = qg; limits = limits; hold = hold }
 
 -- what the callers have checked
@@ -48,8 +49,8 @@ pub record GoodStudy (s : Study) : Type 0 where
 pub data Done : Type 0 where
   done : Settled → List Float → Done
 
-abbrev pub settledOf : Done → Settled
-settledOf (done s w) = s
+abbrev pub settledIn : Done → Settled
+settledIn (done s w) = s
 
 abbrev pub spaceDone : Done → List Float
 spaceDone (done s w) = w
@@ -63,7 +64,7 @@ nothing p =
     let zero : Column = record { re = replicate 32 nought; im = replicate 32 nought } in
     record {
       ended = record { point = p; phasors = record { v = zero; i = zero }; iterations = 0; residual = infinity; ending = Spent };
-      kinds = replicate 32 (kindAt Slack);
+      kinds = replicate 32 (asKindAt Slack);
       schedule = replicate 32 nought;
       residual = infinity;
     }
@@ -84,18 +85,18 @@ movesIn s kinds t e =
     movesOf (s .n) kinds (s .limits) t (s .qd) (injectionsOf (s .n) (s .y) (e .point .vm) (e .point .va) .power .q) (e .point .vm) (s .hold)
 
 -- "the kinds given are those Newton used": its end r, given with a residual
-abbrev pub given : Study → List BusKind → Track → Run → Float → Done
-given s kinds t r res = done (settleOf (s .n) kinds (t .qsched) (endedOf r) res) (spaceAfter r)
+abbrev pub doneWith : Study → List BusKind → Track → Run → Float → Done
+doneWith s kinds t r res = done (settleOf (s .n) kinds (t .qsched) (endedOf r) res) (spaceAfter r)
 
 -- "a residual >= 1e-8 ends them; NaN does not". A round after which no bus moves ends them too; else `after` is what follows the moves
 unfoldable pub roundOf : Study → List BusKind → Track → Run → Done → Done
 roundOf s kinds t r after =
-    let end = given s kinds t r (endedOf r .residual) in
+    let end = doneWith s kinds t r (endedOf r .residual) in
     cond (le tolerance (endedOf r .residual)) end (cond (anyMove (s .n) (movesIn s kinds t (endedOf r))) after end)
 
 -- the last round: where a bus moves even after it, "twelve rounds without settling give infinity"
 abbrev pub lastRound : Study → List BusKind → Track → Run → Done
-lastRound s kinds t r = roundOf s kinds t r (given s kinds t r infinity)
+lastRound s kinds t r = roundOf s kinds t r (doneWith s kinds t r infinity)
 
 -- an earlier one: `rest` goes on with the kinds and schedules after the moves, from Newton's end with the held magnitudes set
 abbrev pub earlierRound : Study → List BusKind → Track → Run → (List BusKind → Track → Point → List Float → Done) → Done

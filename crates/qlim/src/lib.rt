@@ -15,7 +15,8 @@ use real::TOL;
 ghost use mathlib.Core.Path.{_≡_};
 ghost use Prim.Native.Nat.{_≤_};
 ghost use lib.ListN.{length};
-ghost use Rattle.injections.specs.Injections.{ybus, injectedOf};
+ghost use Rattle.network.specs.Network.{tripletsOf};
+ghost use Rattle.injections.specs.Injections.{injectedOf};
 ghost use Rattle.moves.specs.Moves.{movesOf};
 ghost use Rattle.qlim.specs.Rounds.{Study, study, GoodStudy, nothing, settleOf, done, qlimOf};
 
@@ -111,7 +112,7 @@ pub fn solve_qlim(
     w: &mut [f64],
 ) -> Settled
     ghost { Study }
-    requires { λ s. ⌜ study n (ybus (now «y_row») (now «y_col») (now «y_re») (now «y_im»)) (now pd) (now qd) (now pg) qg limits «vm_hold» ≡ s ⌝ }
+    requires { λ s. ⌜ study n (tripletsOf (now «y_row») (now «y_col») (now «y_re») (now «y_im»)) (now pd) (now qd) (now pg) qg limits «vm_hold» ≡ s ⌝ }
     requires { λ s. ⌜ GoodStudy s × (4160 ≤ length (now w)) ⌝ }
     ensures { λ s r. ⌜ done r (now (w .exit)) ≡ qlimOf s default start (now (w .entry)) ⌝ }
 {

@@ -10,9 +10,9 @@ use Rattle.real.specs.Tests.{both}
 use Rattle.real.specs.Literals.{double}
 use Rattle.network.specs.Network.{roomOf, fitsOf, firstRows}
 use Rattle.case_text.proofs.Examples.{listing, listing-contents, listing-tables, listing-read}
-use Rattle.tables.specs.Tables.{ok, placesIn, roomy, zeros}
+use Rattle.tables.specs.Tables.{ok, lengthsIn, roomy, zeros}
 use Rattle.tables.proofs.Examples as Solved
-use Rattle.lines.specs.Lines.{decimalBy, realOf, okOf, busOf, busesOf}
+use Rattle.lines.specs.Lines.{decimalBy, printedReal, okLine, busLine, busLines}
 use Rattle.answer.specs.TextAnswer.{blank, afterReading, textAnswerOf}
 use Rattle.report.specs.Report.{blanks, printedOf, reported, reportOf}
 
@@ -32,10 +32,10 @@ unfolding ofInt ofBits neg
 same-network = refl
 
 same-lines : printedOf 1 (ok 0 (double 0)) (Solved.row blanks) ≡ first-line ++ second-line
-unfolding okOf busesOf busOf decimalBy realOf isNan toBits ofInt ofBits
+unfolding okLine busLines busLine decimalBy printedReal isNan toBits ofInt ofBits
 same-lines = refl
 
-room : (w : List Float) → leb 6144 (length w) ≡ true → roomy 1 (placesIn blanks) (length w) ≡ true
+room : (w : List Float) → leb 6144 (length w) ≡ true → roomy 1 (lengthsIn blanks) (length w) ≡ true
 unfolding roomy both
 room w h = h
 

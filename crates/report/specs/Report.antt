@@ -10,7 +10,7 @@ use Rattle.real.specs.Literals.{nought}
 use Rattle.case_text.specs.declared.Contents.{Contents}
 use Rattle.tables.specs.Tables.{Outs, outs}
 use Rattle.answer.specs.TextAnswer.{TextAnswer, textAnswerOf}
-use Rattle.lines.specs.Lines.{okOf, busesOf, refusedOf, Wrote}
+use Rattle.lines.specs.Lines.{okLine, busLines, refusedLine, Wrote}
 
 -- the buffer that a report is written into
 abbrev pub bufferSize : ℕ
@@ -26,13 +26,13 @@ pub record Report : Type 0 where
 
 -- `ok` and a line per bus, or a refusal
 abbrev pub printedOf : ℕ → Paper (ℕ × Float) → Outs → List ℕ
-printedOf n (given found) o = okOf (found .0) (found .1) ++ busesOf n (o .vm) (o .va) (o .p) (o .q) (o .kinds)
-printedOf n (refused number values) o = refusedOf number values
+printedOf n (given found) o = okLine (found .0) (found .1) ++ busLines n (o .vm) (o .va) (o .p) (o .q) (o .kinds)
+printedOf n (refused number values) o = refusedLine number values
 
 -- of a text that the reader refuses; a good reading is no refusal, and 9 stands in for one
 abbrev pub refusalOf : Paper Contents → List ℕ
-refusalOf (given c) = refusedOf 9 []
-refusalOf (refused number values) = refusedOf number values
+refusalOf (given c) = refusedLine 9 []
+refusalOf (refused number values) = refusedLine number values
 
 -- an answer, printed
 abbrev pub reported : TextAnswer → Report

@@ -7,7 +7,7 @@ ghost use Prim.Native.Nat.{_≤_};
 ghost use lib.ListN.{length};
 ghost use Rattle.io.specs.Counts.{Counts};
 ghost use Rattle.case_text.specs.Answer as Reader;
-ghost use Rattle.tables.specs.Tables.{outs, placesIn, OnePerBus, paperOf};
+ghost use Rattle.tables.specs.Tables.{outs, lengthsIn, OnePerBus, paperOf};
 ghost use Rattle.answer.specs.TextAnswer.{busesIn, paperIn};
 ghost use Rattle.lines.specs.Lines.{Wrote};
 ghost use Rattle.report.specs.Report.{bufferSize, printedOf, refusalOf, reportOf, Reported};
@@ -43,7 +43,7 @@ fn put_outcome(
     kinds: &[u8],
     out: &mut [u8],
 ) -> usize
-    requires { let o = outs (now vm) (now va) (now p) (now q) (now kinds) in ⌜ (n ≤ 32) × OnePerBus n (placesIn o) × (bufferSize ≤ length (now out)) ⌝ }
+    requires { let o = outs (now vm) (now va) (now p) (now q) (now kinds) in ⌜ (n ≤ 32) × OnePerBus n (lengthsIn o) × (bufferSize ≤ length (now out)) ⌝ }
     ensures { λ k.
         let o = outs (now (vm .entry)) (now (va .entry)) (now (p .entry)) (now (q .entry)) (now (kinds .entry)) in
         ⌜ Wrote (now (out .entry)) 0 (printedOf n (paperOf r) o) k (now (out .exit)) × (k ≤ bufferSize) ⌝ }

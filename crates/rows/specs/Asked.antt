@@ -12,20 +12,20 @@ use Rattle.rows.specs.declared.Want.{Want}
 use Rattle.rows.specs.declared.Want.the-variants as Want
 
 -- the letters B, R, G, L, Y
-abbrev pub letterOf : Section → ℕ
-letterOf Section.B = 66
-letterOf Section.R = 82
-letterOf Section.G = 71
-letterOf Section.L = 76
-letterOf Section.Y = 89
+abbrev pub sectionLetter : Section → ℕ
+sectionLetter Section.B = 66
+sectionLetter Section.R = 82
+sectionLetter Section.G = 71
+sectionLetter Section.L = 76
+sectionLetter Section.Y = 89
 
 -- "the named number of fields"
-abbrev pub countOf : Section → ℕ
-countOf Section.B = 8
-countOf Section.R = 2
-countOf Section.G = 3
-countOf Section.L = 2
-countOf Section.Y = 4
+abbrev pub fieldCount : Section → ℕ
+fieldCount Section.B = 8
+fieldCount Section.R = 2
+fieldCount Section.G = 3
+fieldCount Section.L = 2
+fieldCount Section.Y = 4
 
 -- "Buses 0 to 32, slack rows 0 to 32, generators 0 to 32, branches 0 to 64, triplets 0 to 256"
 abbrev pub sizeOf : Section → ℕ

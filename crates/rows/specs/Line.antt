@@ -6,7 +6,7 @@ use mathlib.Core.List.{List, [], _∷_}
 use lib.Dec.{eqb}
 use lib.ListN.{length}
 use Rattle.fields.specs.Cut.{empty, only, pieces}
-use Rattle.rows.specs.Asked.{letterOf, countOf, wantOf, goodOf}
+use Rattle.rows.specs.Asked.{sectionLetter, fieldCount, wantOf, goodOf}
 use Rattle.rows.specs.declared.Section.{Section}
 use Rattle.rows.specs.declared.Check.{Check}
 use Rattle.rows.specs.declared.Check.the-variants as Check
@@ -23,7 +23,7 @@ spacedOf k n fs = allSome fs && eqb (k + length fs) n
 -- "its section's letter and the named number of fields, none empty, with one space before each", of a line cut at its spaces
 abbrev pub formOf : Section → List (List ℕ) → Bool
 formOf z [] = false
-formOf z (f ∷ fs) = only (letterOf z) f && spacedOf 0 (countOf z) fs
+formOf z (f ∷ fs) = only (sectionLetter z) f && spacedOf 0 (fieldCount z) fs
 
 -- the fields from field j on, which start at `at`: refusal 5 at the first wrong one
 unfoldable pub fieldsOf : Section → ℕ → ℕ → List (List ℕ) → Check

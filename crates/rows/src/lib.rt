@@ -4,7 +4,7 @@ ghost use Prim.Native.Nat.{_≤_};
 ghost use lib.ListN.{length};
 ghost use lib.Seq.{slice};
 ghost use Rattle.fields.specs.Cut.{pieces};
-ghost use Rattle.rows.specs.Asked.{letterOf, countOf, sizeOf, wantOf, goodOf};
+ghost use Rattle.rows.specs.Asked.{sectionLetter, fieldCount, sizeOf, wantOf, goodOf};
 ghost use Rattle.rows.specs.Line.{spacedOf, formOf, fieldsOf, lineOf};
 ghost use Rattle.rows.specs.Rows.{checkOf};
 
@@ -34,7 +34,7 @@ pub enum Check {
 }
 
 fn letter(z: Section) -> u8
-    ensures { λ r. ⌜ r ≡ letterOf z ⌝ }
+    ensures { λ r. ⌜ r ≡ sectionLetter z ⌝ }
 {
     match z {
         Section::B => b'B',
@@ -46,7 +46,7 @@ fn letter(z: Section) -> u8
 }
 
 fn count(z: Section) -> usize
-    ensures { λ r. ⌜ r ≡ countOf z ⌝ }
+    ensures { λ r. ⌜ r ≡ fieldCount z ⌝ }
 {
     match z {
         Section::B => 8,

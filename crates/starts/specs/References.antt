@@ -55,5 +55,5 @@ abbrev pub Numbered : List ℕ → List ℕ → Type 0
 Numbered slacks labels = (i : ℕ) → i < length slacks → getD labels (getD slacks i 0) 0 < 32
 
 -- each of the n buses has a slack among them, or none
-abbrev pub Slacks : ℕ → References → Type 0
-Slacks n r = (b : ℕ) → b < n → getD (r .slack) b 0 < 32 → getD (r .slack) b 0 < n
+abbrev pub SlacksBelow : ℕ → References → Type 0
+SlacksBelow n r = (b : ℕ) → b < n → getD (r .slack) b 0 < 32 → getD (r .slack) b 0 < n

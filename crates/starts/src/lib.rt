@@ -4,9 +4,9 @@ use layout::Point;
 ghost use mathlib.Core.Path.{_≡_};
 ghost use Prim.Native.Nat.{_≤_, _<_};
 ghost use lib.ListN.{length};
-ghost use Rattle.layout.specs.Table.{Below};
+ghost use Rattle.network.specs.Below.{Below};
 ghost use Rattle.islands.specs.Islands.{Ends};
-ghost use Rattle.starts.specs.References.{Numbered, Slacks, byIsland, referencesOf};
+ghost use Rattle.starts.specs.References.{Numbered, SlacksBelow, byIsland, referencesOf};
 ghost use Rattle.starts.specs.Starts.{finiteOr, magnitudeFor, slackAngle, angleFor, caseOf, flatOf, nudged, scaled, perturbedOf, fromFlat};
 
 // Where the iteration starts: flat, or the stored case state first.
@@ -124,7 +124,7 @@ pub fn case_start(
     va_case: &[f64],
     r: References,
 ) -> Point
-    requires { ⌜ (n ≤ 32) × (n ≤ length (now «vm_set»)) × (n ≤ length (now «vm_case»)) × (n ≤ length (now «va_case»)) × Slacks n r ⌝ }
+    requires { ⌜ (n ≤ 32) × (n ≤ length (now «vm_set»)) × (n ≤ length (now «vm_case»)) × (n ≤ length (now «va_case»)) × SlacksBelow n r ⌝ }
     ensures { λ p. ⌜ p ≡ caseOf n (now («vm_set» .entry)) (now («vm_case» .entry)) (now («va_case» .entry)) r ⌝ }
 {
     let mut vm = [0.0; 32];

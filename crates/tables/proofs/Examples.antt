@@ -26,8 +26,8 @@ use Rattle.qlim.specs.Rounds.{roundOf, roundsFrom, qlimOf}
 use Rattle.starts.specs.References.{laterRow, referencesOf}
 use Rattle.starts.specs.Starts.{caseOf, flatOf}
 use Rattle.pf_ac.specs.WithStart.{acPfOf}
-use Rattle.pf_ac.specs.Search.{startOf, betterOf, tryOf, searchFrom, searchOf}
-use Rattle.tables.specs.Tables.{Outs, outs, answer, ok, placesIn, roomy, checkedOf, withAnswer, zeros, runOf, afterCheck, solveOf}
+use Rattle.pf_ac.specs.Search.{nthStart, betterOf, tryOf, searchFrom, searchOf}
+use Rattle.tables.specs.Tables.{Outs, outs, answer, ok, lengthsIn, roomy, checkedOf, withAnswer, zeros, runOf, afterCheck, solveOf}
 use Rattle.tables.specs.declared.Checked.the-variants as Checked
 use Rattle.starts.specs.declared.AcStart.{AcStart}
 use Rattle.starts.specs.declared.AcStart.the-variants.{Flat, Case}
@@ -46,8 +46,8 @@ abbrev pub row : Outs → Outs
 row o = outs (set (o .vm) 0 (double 1)) (set (o .va) 0 (double 0)) (set (o .p) 0 (double 2)) (set (o .q) 0 (double 8)) (set (o .kinds) 0 83)
 
 -- whatever stood in the columns and in the workspace
-pub listing-solved : (o : Outs) (w : List Float) → roomy 1 (placesIn o) (length w) ≡ true → solveOf Flat listing o w ≡ answer (ok 0 (double 0)) (row o) (zeros w)
-unfolding normOf absolute sinCosOf groupOf lowest tally each labelsOf anyBelow kindsOf angleCount magnitudeCount layoutOf sumAt limitsOf stores voltagesOf currentsTo phasorsOf injectedOf measuredOf stepsFrom newtonOf moveOf movesOf pinned keptKinds scheduleOf lettersOf roundOf roundsFrom qlimOf laterRow referencesOf flatOf acPfOf startOf betterOf tryOf searchFrom searchOf both allBelow counted numbered withAnswer checkedOf runOf solveOf ofInt ofBits add sub mul div neg lt le isNan
+pub listing-solved : (o : Outs) (w : List Float) → roomy 1 (lengthsIn o) (length w) ≡ true → solveOf Flat listing o w ≡ answer (ok 0 (double 0)) (row o) (zeros w)
+unfolding normOf absolute sinCosOf groupOf lowest tally each labelsOf anyBelow kindsOf angleCount magnitudeCount layoutOf sumAt limitsOf stores voltagesOf currentsTo phasorsOf injectedOf measuredOf stepsFrom newtonOf moveOf movesOf pinned keptKinds scheduleOf lettersOf roundOf roundsFrom qlimOf laterRow referencesOf flatOf acPfOf nthStart betterOf tryOf searchFrom searchOf both allBelow counted numbered withAnswer checkedOf runOf solveOf ofInt ofBits add sub mul div neg lt le isNan
 listing-solved o w h = ap (λ (r : Bool). afterCheck Flat listing o w (cond r Checked.Ready Checked.Room)) h
 
 -- no bus, and so no row in any table
@@ -55,8 +55,8 @@ abbrev empty : Network
 empty = networkOf (busesOf [] [] [] [] [] [] [] []) (slacksOf [] []) (generatorsOf [] [] []) (branchesOf [] []) (tripletsOf [] [] [] [])
 
 -- "Zero buses is solved, with nothing in the answer": the columns stay as they were
-pub no-buses-solved : (start : AcStart) (o : Outs) (w : List Float) → roomy 0 (placesIn o) (length w) ≡ true
+pub no-buses-solved : (start : AcStart) (o : Outs) (w : List Float) → roomy 0 (lengthsIn o) (length w) ≡ true
     → solveOf start empty o w ≡ answer (ok 0 (double 0)) o (zeros w)
-unfolding normOf absolute sinCosOf groupOf lowest tally each labelsOf anyBelow kindsOf angleCount magnitudeCount layoutOf sumAt limitsOf stores voltagesOf currentsTo phasorsOf injectedOf measuredOf stepsFrom newtonOf moveOf movesOf pinned keptKinds scheduleOf lettersOf roundOf roundsFrom qlimOf laterRow referencesOf flatOf acPfOf startOf betterOf tryOf searchFrom searchOf both allBelow counted numbered withAnswer checkedOf runOf solveOf ofInt ofBits add sub mul div neg lt le isNan caseOf
+unfolding normOf absolute sinCosOf groupOf lowest tally each labelsOf anyBelow kindsOf angleCount magnitudeCount layoutOf sumAt limitsOf stores voltagesOf currentsTo phasorsOf injectedOf measuredOf stepsFrom newtonOf moveOf movesOf pinned keptKinds scheduleOf lettersOf roundOf roundsFrom qlimOf laterRow referencesOf flatOf acPfOf nthStart betterOf tryOf searchFrom searchOf both allBelow counted numbered withAnswer checkedOf runOf solveOf ofInt ofBits add sub mul div neg lt le isNan caseOf
 no-buses-solved Flat o w h = ap (λ (r : Bool). afterCheck Flat empty o w (cond r Checked.Ready Checked.Room)) h
 no-buses-solved Case o w h = ap (λ (r : Bool). afterCheck Case empty o w (cond r Checked.Ready Checked.Room)) h

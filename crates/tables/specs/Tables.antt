@@ -56,21 +56,21 @@ outs vm va p q kinds = record { vm = vm; va = va; p = p; q = q; kinds = kinds }
 -- ---- the checks
 
 -- how many places each answer column has
-pub record Places : Type 0 where
+pub record Lengths : Type 0 where
   pub vm : ℕ
   pub va : ℕ
   pub p : ℕ
   pub q : ℕ
   pub kinds : ℕ
 
-abbrev pub placesOf : ℕ → ℕ → ℕ → ℕ → ℕ → Places
-placesOf vm va p q kinds = record { vm = vm; va = va; p = p; q = q; kinds = kinds }
+abbrev pub lengthsOf : ℕ → ℕ → ℕ → ℕ → ℕ → Lengths
+lengthsOf vm va p q kinds = record { vm = vm; va = va; p = p; q = q; kinds = kinds }
 
-abbrev pub placesIn : Outs → Places
-placesIn o = placesOf (length (o .vm)) (length (o .va)) (length (o .p)) (length (o .q)) (length (o .kinds))
+abbrev pub lengthsIn : Outs → Lengths
+lengthsIn o = lengthsOf (length (o .vm)) (length (o .va)) (length (o .p)) (length (o .q)) (length (o .kinds))
 
 -- "at least one place per bus"
-pub record OnePerBus (n : ℕ) (m : Places) : Type 0 where
+pub record OnePerBus (n : ℕ) (m : Lengths) : Type 0 where
   pub vm : n ≤ m .vm
   pub va : n ≤ m .va
   pub p : n ≤ m .p
@@ -78,7 +78,7 @@ pub record OnePerBus (n : ℕ) (m : Places) : Type 0 where
   pub kinds : n ≤ m .kinds
 
 -- no "answer columns or workspace too short"
-unfoldable pub roomy : ℕ → Places → ℕ → Bool
+unfoldable pub roomy : ℕ → Lengths → ℕ → Bool
 roomy n m space = both (leb n (m .vm)) (both (leb n (m .va)) (both (leb n (m .p)) (both (leb n (m .q)) (both (leb n (m .kinds)) (leb 6144 space)))))
 
 -- ---- what is written
@@ -97,7 +97,7 @@ zeros w = replicate (length w) nought
 -- ---- the three parts
 
 -- 7, 9 and 8, in the table's order
-unfoldable pub checkedOf : Network → Places → ℕ → Checked
+unfoldable pub checkedOf : Network → Lengths → ℕ → Checked
 checkedOf t m space =
     cond (counted t) (cond (roomy (busCount t) m space) (cond (numbered t) Checked.Ready Checked.Bus) Checked.Room) Checked.Counts
 
@@ -143,4 +143,4 @@ afterCheck start t o w Checked.Room = answer (refused 9 []) o w
 afterCheck start t o w Checked.Bus = answer (refused 8 []) o w
 
 unfoldable pub solveOf : AcStart → Network → Outs → List Float → Answer
-solveOf start t o w = afterCheck start t o w (checkedOf t (placesIn o) (length w))
+solveOf start t o w = afterCheck start t o w (checkedOf t (lengthsIn o) (length w))

@@ -13,7 +13,7 @@ ghost use Rattle.layout.specs.Table.{stores};
 ghost use Rattle.network.specs.Network.{Network, Triplets, busesOf, slacksOf, generatorsOf, branchesOf, tripletsOf, networkOf};
 ghost use Rattle.network.specs.Checks.{WellIndexed};
 ghost use Rattle.injections.specs.Injections.{GoodTriplets};
-ghost use Rattle.tables.specs.Tables.{Outs, outs, OnePerBus, placesOf, placesIn, roomy, checkedOf, withAnswer, written, writeOf};
+ghost use Rattle.tables.specs.Tables.{Outs, outs, OnePerBus, lengthsOf, lengthsIn, roomy, checkedOf, withAnswer, written, writeOf};
 ghost use Rattle.tables.specs.Tables.{zeros, ran, runOf, paperOf, answer, solveOf};
 
 // What the call answers. Each refusal is one of the paper's: Counts is 7, Room 9, Bus 8, NotConverged 10.
@@ -29,7 +29,7 @@ pub enum Outcome {
 
 // Refusal 9, of the lengths of the answer columns and the workspace.
 fn roomy(n: usize, vm: usize, va: usize, p: usize, q: usize, kinds: usize, w: usize) -> bool
-    ensures { λ r. ⌜ r ≡ roomy n (placesOf vm va p q kinds) w ⌝ }
+    ensures { λ r. ⌜ r ≡ roomy n (lengthsOf vm va p q kinds) w ⌝ }
 {
     real::and(
         n <= vm,
@@ -78,7 +78,7 @@ fn write_answer(
 )
     ghost { Triplets × Outs }
     requires { λ α. ⌜ (tripletsOf (now «y_row») (now «y_col») (now «y_re») (now «y_im»), outs (now vm) (now va) (now p) (now q) (now kinds)) ≡ α ⌝ }
-    requires { λ (y, o). ⌜ GoodTriplets n y × OnePerBus n (placesIn o) ⌝ }
+    requires { λ (y, o). ⌜ GoodTriplets n y × OnePerBus n (lengthsIn o) ⌝ }
     ensures { λ (y, o) _. ⌜ outs (now (vm .exit)) (now (va .exit)) (now (p .exit)) (now (q .exit)) (now (kinds .exit)) ≡ withAnswer n y point kept o ⌝ }
 {
     let letters = moves::letters(n, kept);
@@ -122,7 +122,7 @@ fn write(
 ) -> Outcome
     ghost { Triplets × Outs }
     requires { λ α. ⌜ (tripletsOf (now «y_row») (now «y_col») (now «y_re») (now «y_im»), outs (now vm) (now va) (now p) (now q) (now kinds)) ≡ α ⌝ }
-    requires { λ (y, o). ⌜ GoodTriplets n y × OnePerBus n (placesIn o) ⌝ }
+    requires { λ (y, o). ⌜ GoodTriplets n y × OnePerBus n (lengthsIn o) ⌝ }
     ensures { λ (y, o) r. ⌜ written (paperOf r) (outs (now (vm .exit)) (now (va .exit)) (now (p .exit)) (now (q .exit)) (now (kinds .exit)))
         ≡ writeOf n y found point kept o ⌝ }
 {
@@ -199,7 +199,7 @@ pub fn check(
         (generatorsOf (now («gen_bus» .entry)) (now (qmin .entry)) (now (qmax .entry)))
         (branchesOf (now («br_from» .entry)) (now («br_to» .entry)))
         (tripletsOf (now («y_row» .entry)) (now («y_col» .entry)) (now («y_re» .entry)) (now («y_im» .entry))) in
-        ⌜ r ≡ checkedOf t (placesOf vm va p q kinds) w ⌝ }
+        ⌜ r ≡ checkedOf t (lengthsOf vm va p q kinds) w ⌝ }
 {
     if !network::counted(
         kind,

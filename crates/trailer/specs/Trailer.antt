@@ -33,12 +33,12 @@ abbrev pub trailerStart : List ℕ → ℕ
 trailerStart s = length s - trailerLength
 
 -- "a space and five digits", at a place
-abbrev pub groupOf : List ℕ → ℕ → Digits
-groupOf s at = cond (eqb (getD s at 0) 32) (digitsOf 0 (slice (at + 1) (at + 6) s)) Digits.Other
+abbrev pub groupAt : List ℕ → ℕ → Digits
+groupAt s at = cond (eqb (getD s at 0) 32) (digitsOf 0 (slice (at + 1) (at + 6) s)) Digits.Other
 
 -- the number of a group
 abbrev pub startAt : List ℕ → ℕ → ℕ
-startAt s at = numberIn (groupOf s at)
+startAt s at = numberIn (groupAt s at)
 
 -- the number of group j of the trailer at t, counted from 0: behind the flag and j groups
 abbrev pub numberOf : List ℕ → ℕ → ℕ → ℕ
@@ -47,7 +47,7 @@ numberOf s t j = startAt s (t + 1 + 6 * j)
 -- so many groups from a place on, their numbers from `low` on: "they never fall", and the last is `end`
 unfoldable pub risingOf : ℕ → List ℕ → ℕ → ℕ → ℕ → Bool
 risingOf zero s at low end = eqb low end
-risingOf (suc k) s at low end = isNumber (groupOf s at) && (leb low (startAt s at) && risingOf k s (at + 6) (startAt s at) end)
+risingOf (suc k) s at low end = isNumber (groupAt s at) && (leb low (startAt s at) && risingOf k s (at + 6) (startAt s at) end)
 
 -- "`F` (flat) or `C` (case start)"
 abbrev pub flagged : ℕ → Bool
@@ -73,21 +73,21 @@ indexOf Section.L = 3
 indexOf Section.Y = 4
 
 -- a section's bytes stand from its start up to the next start
-abbrev pub startOf : Section → List ℕ → ℕ → ℕ
-startOf z s t = numberOf s t (indexOf z)
+abbrev pub sectionStart : Section → List ℕ → ℕ → ℕ
+sectionStart z s t = numberOf s t (indexOf z)
 
-abbrev pub endOf : Section → List ℕ → ℕ → ℕ
-endOf z s t = numberOf s t (indexOf z + 1)
+abbrev pub sectionEnd : Section → List ℕ → ℕ → ℕ
+sectionEnd z s t = numberOf s t (indexOf z + 1)
 
 abbrev pub placesOf : List ℕ → ℕ → Places
 placesOf s t = record {
-  b = startOf Section.B s t;
-  r = startOf Section.R s t;
-  g = startOf Section.G s t;
-  l = startOf Section.L s t;
-  y = startOf Section.Y s t;
-  t = endOf Section.Y s t;
+  b = sectionStart Section.B s t;
+  r = sectionStart Section.R s t;
+  g = sectionStart Section.G s t;
+  l = sectionStart Section.L s t;
+  y = sectionStart Section.Y s t;
+  t = sectionEnd Section.Y s t;
 }
 
 unfoldable pub bytesOf : Section → List ℕ → ℕ → List ℕ
-bytesOf z s t = slice (startOf z s t) (endOf z s t) s
+bytesOf z s t = slice (sectionStart z s t) (sectionEnd z s t) s

@@ -5,7 +5,7 @@ use starts::AcStart;
 ghost use mathlib.Core.Path.{_≡_};
 ghost use Prim.Native.Nat.{_+_, _*_, _≤_, _<_};
 ghost use lib.ListN.{length};
-ghost use Rattle.trailer.specs.Trailer.{groups, widthOf, trailerLength, trailerStart, groupOf, startAt, numberOf, risingOf, flagged, modeOf, trailerBy, trailerOf, indexOf, startOf, endOf, placesOf};
+ghost use Rattle.trailer.specs.Trailer.{groups, widthOf, trailerLength, trailerStart, groupAt, startAt, numberOf, risingOf, flagged, modeOf, trailerBy, trailerOf, indexOf, sectionStart, sectionEnd, placesOf};
 
 // The groups of a trailer.
 pub const GROUPS: usize = 6;
@@ -26,7 +26,7 @@ pub struct Places {
 // A space and five digits.
 fn group(s: &[u8], at: usize) -> Digits
     requires { ⌜ at + 6 ≤ length (now s) ⌝ }
-    ensures { λ r. ⌜ r ≡ groupOf (now (s .entry)) at ⌝ }
+    ensures { λ r. ⌜ r ≡ groupAt (now (s .entry)) at ⌝ }
 {
     if s[at] == b' ' {
         return fields::whole(s, at + 1, at + 6, 0);
@@ -48,7 +48,7 @@ fn placed<'a>(text: &'a [u8], at: usize) -> Reader<'a>
 
 fn next_group<'a>(r: Reader<'a>) -> Digits
     requires { ⌜ r .at + 6 ≤ length (now (r .text)) ⌝ }
-    ensures { λ g. ⌜ g ≡ groupOf (now (r .entry .text)) (r .entry .at) ⌝ }
+    ensures { λ g. ⌜ g ≡ groupAt (now (r .entry .text)) (r .entry .at) ⌝ }
 {
     group(r.text, r.at)
 }
@@ -56,7 +56,7 @@ fn next_group<'a>(r: Reader<'a>) -> Digits
 // The group at a place, for callers that have the text and the place apart.
 fn group_at(s: &[u8], at: usize) -> Digits
     requires { ⌜ at + 6 ≤ length (now s) ⌝ }
-    ensures { λ r. ⌜ r ≡ groupOf (now (s .entry)) at ⌝ }
+    ensures { λ r. ⌜ r ≡ groupAt (now (s .entry)) at ⌝ }
 {
     next_group(placed(s, at))
 }
@@ -157,7 +157,7 @@ fn index(z: Section) -> usize
 // Where a section starts.
 pub fn start_of(s: &[u8], t: usize, z: Section) -> usize
     requires { ⌜ t + trailerLength ≤ length (now s) ⌝ }
-    ensures { λ r. ⌜ r ≡ startOf z (now (s .entry)) t ⌝ }
+    ensures { λ r. ⌜ r ≡ sectionStart z (now (s .entry)) t ⌝ }
 {
     number_of(s, t, index(z))
 }
@@ -165,7 +165,7 @@ pub fn start_of(s: &[u8], t: usize, z: Section) -> usize
 // Where a section ends: at the next start.
 pub fn end_of(s: &[u8], t: usize, z: Section) -> usize
     requires { ⌜ t + trailerLength ≤ length (now s) ⌝ }
-    ensures { λ r. ⌜ r ≡ endOf z (now (s .entry)) t ⌝ }
+    ensures { λ r. ⌜ r ≡ sectionEnd z (now (s .entry)) t ⌝ }
 {
     number_of(s, t, index(z) + 1)
 }

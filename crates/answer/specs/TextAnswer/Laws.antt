@@ -18,12 +18,12 @@ use Rattle.case_text.specs.declared.Reading.the-variants as Reading
 use Rattle.case_text.specs.Text.{textOf}
 use Rattle.case_text.specs.Text.Laws.{Accepted, Where, text-sound, never-room}
 use Rattle.case_text.specs.Answer as Reader
-use Rattle.case_text.specs.Answer.{withRoom, judgedOf, filledOf, outcomeOf, readOf}
+use Rattle.case_text.specs.Answer.{withRoom, judgedOf, filledOf, readResultOf, readOf}
 use Rattle.case_text.specs.Answer.Laws.{rows-most, filled-room}
 use Rattle.starts.specs.declared.AcStart.{AcStart}
 use Rattle.pf_ac.specs.WithStart.Withheld.{Alike}
 use Rattle.tables.specs.declared.Checked.the-variants as Checked
-use Rattle.tables.specs.Tables.{Outs, placesIn, roomy, checkedOf, runOf, Answer, answer, afterRun, afterCheck, solveOf}
+use Rattle.tables.specs.Tables.{Outs, lengthsIn, roomy, checkedOf, runOf, Answer, answer, afterRun, afterCheck, solveOf}
 use Rattle.tables.specs.Tables.Withheld.{solve-withheld}
 use Rattle.answer.specs.TextAnswer.{blank, TextAnswer, textAnswer, unread, afterReading, textAnswerOf}
 
@@ -46,7 +46,7 @@ reader-never-9 s = go (textOf s) (Reader.paperOf (textOf s)) refl (text-sound s)
 abbrev pub solvedOr8 : AcStart → Network → Outs → List Float → Answer
 solvedOr8 start t o w = cond (numbered t) (afterRun t o (runOf start t w)) (answer (refused 8 []) o w)
 
-pub solve-never-7-9 : (start : AcStart) (t : Network) (o : Outs) (w : List Float) → counted t ≡ true → roomy (busCount t) (placesIn o) (length w) ≡ true
+pub solve-never-7-9 : (start : AcStart) (t : Network) (o : Outs) (w : List Float) → counted t ≡ true → roomy (busCount t) (lengthsIn o) (length w) ≡ true
     → solveOf start t o w ≡ solvedOr8 start t o w
 unfolding solveOf checkedOf
 solve-never-7-9 start t o w h k = rw (h, k) (go (numbered t))
@@ -66,11 +66,11 @@ textGives s o w v =
 
 -- of the first rows of tables that have room for them
 rows-never-7-9 : (start : AcStart) (r : Rows) (t : Network) (o : Outs) (w : List Float) → AtMost r sizes → AtMost r (roomOf t)
-    → ((n : ℕ) → n ≤ 32 → roomy n (placesIn o) (length w) ≡ true) → solveOf start (firstRows r t) o w ≡ solvedOr8 start (firstRows r t) o w
+    → ((n : ℕ) → n ≤ 32 → roomy n (lengthsIn o) (length w) ≡ true) → solveOf start (firstRows r t) o w ≡ solvedOr8 start (firstRows r t) o w
 rows-never-7-9 start r t o w few fits room =
     solve-never-7-9 start (firstRows r t) o w (first-counted r t few fits) (rw (first-buses r t fits) (room (r .buses) (few .buses)))
 
-pub answer-never-7-9 : (s : List ℕ) (o : Outs) (w : List Float) → ((n : ℕ) → n ≤ 32 → roomy n (placesIn o) (length w) ≡ true)
+pub answer-never-7-9 : (s : List ℕ) (o : Outs) (w : List Float) → ((n : ℕ) → n ≤ 32 → roomy n (lengthsIn o) (length w) ≡ true)
     → (textAnswerOf s o w ≡ textGives s o w (textOf s)) × (textOf s ≡ Reading.Room → ⊥)
 unfolding textAnswerOf readOf
 answer-never-7-9 s o w room = (rw (reader-never-9 s) (go (textOf s) (Reader.paperOf (textOf s)) refl (text-sound s)), never-room s)
@@ -78,7 +78,7 @@ answer-never-7-9 s o w room = (rw (reader-never-9 s) (go (textOf s) (Reader.pape
     fits : (r : Rows) → AtMost r sizes → AtMost r (roomOf (filledOf s (trailerStart s) blank))
     fits r few = rw (filled-room s (trailerStart s) blank) (blank-holds r few)
 
-    go : (v : Reading) (p : Paper Contents) → Reader.paperOf v ≡ p → Where (Accepted s (trailerStart s)) p → afterReading (outcomeOf s v blank) o w ≡ textGives s o w v
+    go : (v : Reading) (p : Paper Contents) → Reader.paperOf v ≡ p → Where (Accepted s (trailerStart s)) p → afterReading (readResultOf s v blank) o w ≡ textGives s o w v
     go v (given c) e a =
         let few = rows-most s _ c a in
         rw e (ap (told (c .rows .buses)) (rows-never-7-9 (c .start) (c .rows) (filledOf s (trailerStart s) blank) o w few (fits (c .rows) few) room))
@@ -88,5 +88,5 @@ answer-never-7-9 s o w room = (rw (reader-never-9 s) (go (textOf s) (Reader.pape
 
 -- tables that differ only in 01's withheld columns are answered alike
 pub answer-withheld : (c : Contents) (read read′ : Network) (o : Outs) (w : List Float) → Alike (c .start) (firstRows (c .rows) read) (firstRows (c .rows) read′)
-    → afterReading (Reader.outcome (given c) read) o w ≡ afterReading (Reader.outcome (given c) read′) o w
+    → afterReading (Reader.readResult (given c) read) o w ≡ afterReading (Reader.readResult (given c) read′) o w
 answer-withheld c read read′ o w a = ap (told (c .rows .buses)) (solve-withheld (c .start) _ _ a o w)

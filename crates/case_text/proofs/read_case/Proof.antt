@@ -5,7 +5,7 @@ use Prim.Native.Nat.{ℕ, min}
 use lib.ListN.{length}
 use borrow.Author.Needs.{needs}
 use Rattle.network.specs.declared.Rows.{Rows}
-use Rattle.network.specs.Network.{Network, busesOf, slacksOf, generatorsOf, branchesOf, tripletsOf, networkOf, rowsOf, roomOf}
+use Rattle.network.specs.Network.{Network, busesOf, slacksOf, generatorsOf, branchesOf, tripletsOf, networkOf, rowCounts, roomOf}
 use Rattle.case_text.specs.Answer.Laws.{Placed, placed, ends, fitting, read-good, read-refused}
 use Rattle.case_text.proofs.Refusals.{untouched}
 use Rattle.case_text.proofs.read_case.Statement.{statement}
@@ -66,14 +66,14 @@ old x =
 -- the room that is asked about is the columns'
 abbrev room : Judged → Rows
 room c =
-    rowsOf (c .before .before .before .before .before .before .least8 .result) (c .before .before .before .before .before .least .result)
+    rowCounts (c .before .before .before .before .before .before .least8 .result) (c .before .before .before .before .before .least .result)
     (c .before .before .before .least3 .result) (c .before .before .least4 .result) (c .before .least42 .result)
 
 room-is : (c : Judged) → room c ≡ roomOf (old (start-of c))
 room-is c =
     let a = start-of c .args in
     let g = c .before .before .before .least3 .ensures .0 ∙ ap (λ (n : ℕ). min n (length (a .qmax .now))) (c .before .before .before .before .least2 .ensures .0) in
-    λ i. rowsOf (c .before .before .before .before .before .before .least8 .ensures i) (c .before .before .before .before .before .least .ensures .0 i)
+    λ i. rowCounts (c .before .before .before .before .before .before .least8 .ensures i) (c .before .before .before .before .before .least .ensures .0 i)
     (g i) (c .before .before .least4 .ensures .0 i) (c .before .least42 .ensures i)
 
 found : (c : tie.After-section-places) → let x = start-of (judged-of (c .before)) in Placed (x .args .text .now) (old x) (c .section-places .result)

@@ -19,11 +19,11 @@ use Rattle.rows.specs.declared.Section.{Section}
 use Rattle.rows.specs.declared.Section.the-variants as Section
 use Rattle.rows.specs.declared.Check.the-variants as Check
 use Rattle.columns.specs.Columns.{rowCount}
-use Rattle.trailer.specs.Trailer.{trailerStart, startOf, bytesOf, placesOf}
+use Rattle.trailer.specs.Trailer.{trailerStart, sectionStart, bytesOf, placesOf}
 use Rattle.trailer.specs.Trailer.Laws.{within}
 use Rattle.case_text.specs.Text.{partOf, textOf}
 use Rattle.case_text.specs.Text.Laws.{Accepted, accepted-has}
-use Rattle.case_text.specs.Answer.{withRoom, judgedOf, filledFrom, filledOf, outcome, paperOf, outcomeOf, readOf}
+use Rattle.case_text.specs.Answer.{withRoom, judgedOf, filledFrom, filledOf, readResult, paperOf, readResultOf, readOf}
 use Rattle.case_text.specs.declared.Contents.{Contents}
 use Rattle.trailer.specs.declared.Places.{Places}
 use Rattle.case_text.specs.declared.Reading.{Reading}
@@ -55,11 +55,11 @@ fitting s m c h = let e = with-room (textOf s) m c h in record { accepted = acce
 
 part-rows : (z : Section) (s : List ℕ) (t n : ℕ) → partOf z s t ≡ Check.Good n → n ≡ rowCount (bytesOf z s t)
 unfolding partOf
-part-rows z s t n h = section-rows z (startOf z s t) (bytesOf z s t) n h
+part-rows z s t n h = section-rows z (sectionStart z s t) (bytesOf z s t) n h
 
 part-most : (z : Section) (s : List ℕ) (t n : ℕ) → partOf z s t ≡ Check.Good n → n ≤ sizeOf z
 unfolding partOf
-part-most z s t n h = section-most z (startOf z s t) (bytesOf z s t) n h
+part-most z s t n h = section-most z (sectionStart z s t) (bytesOf z s t) n h
 
 -- the rows of an accepted text are within the sizes
 pub rows-most : (s : List ℕ) (t : ℕ) (c : Contents) → Accepted s t c → AtMost (c .rows) sizes
@@ -138,10 +138,10 @@ module _ (s : List ℕ) (old : Network) (m : Rows) (v : Reading) (r : m ≡ room
   judged = ap (judgedOf s) (sym r) ∙ sym h
 
   pub read-good : (c : Contents) (p : Places) (new : Network) → v ≡ Reading.Good c → p ≡ placesOf s (trailerStart s) → new ≡ filledBy s p old
-      → outcome (paperOf v) new ≡ readOf s old
+      → readResult (paperOf v) new ≡ readOf s old
   unfolding readOf
   read-good c p new g q w = rw (judged, g, w, q, filled-at s (trailerStart s) old)
 
-  pub read-refused : outcomeOf s v old ≡ outcome (paperOf v) old → outcome (paperOf v) old ≡ readOf s old
+  pub read-refused : readResultOf s v old ≡ readResult (paperOf v) old → readResult (paperOf v) old ≡ readOf s old
   unfolding readOf
   read-refused k = rw judged (sym k)

@@ -14,12 +14,12 @@ use borrow.Author.Tests.{eqb-true, eq-eqb}
 use Rattle.real.specs.Tests.{decided, true-false}
 use Rattle.fields.specs.Digits.{digits, digitsOf, isNumber}
 use Rattle.rows.specs.Rows.{rowsOf}
-use Rattle.rows.specs.Printed.{tableOf}
+use Rattle.rows.specs.Printed.{fieldTable}
 use Rattle.rows.specs.Printed.Laws.{section-printed, section-sound, Sound}
 use Rattle.rows.specs.declared.Section.{Section}
 use Rattle.rows.specs.declared.Section.the-variants as Section
 use Rattle.rows.specs.declared.Check.the-variants as Check
-use Rattle.trailer.specs.Trailer.{groups, widthOf, trailerLength, trailerStart, groupOf, startAt, risingOf, indexOf, startOf, endOf, bytesOf}
+use Rattle.trailer.specs.Trailer.{groups, widthOf, trailerLength, trailerStart, groupAt, startAt, risingOf, indexOf, sectionStart, sectionEnd, bytesOf}
 use Rattle.trailer.specs.Trailer.Laws.{first-group, groups-after, GoodTrailer, good-trailer, rising, Within, within}
 use Rattle.case_text.specs.Text.{partOf, textOf}
 use Rattle.case_text.specs.Text.Laws.{accepted-has}
@@ -36,14 +36,14 @@ drop-step s i h = rw add-one (drop-cons s i 0 h)
 
 -- ---- the trailer
 
-pub group-space : (s : List ℕ) (at : ℕ) → isNumber (groupOf s at) ≡ true → getD s at 0 ≡ 32
+pub group-space : (s : List ℕ) (at : ℕ) → isNumber (groupAt s at) ≡ true → getD s at 0 ≡ 32
 group-space s at h = ⊎-elim (λ q. eqb-true (getD s at 0) 32 q) (λ q. absurd (true-false (rw q at h) refl)) (decided (eqb (getD s at 0) 32))
 
 five-digits : (s : List ℕ) (at : ℕ) → isNumber (digitsOf 0 (slice (at + 1) (at + 6) s)) ≡ true → digits (slice (at + 1) (at + 6) s) ≡ true
 five-digits s at h =
     ⊎-elim (λ q. q) (λ q. absurd (true-false (rw q at h) refl)) (decided (digits (slice (at + 1) (at + 6) s)))
 
-pub group-digits : (s : List ℕ) (at : ℕ) → isNumber (groupOf s at) ≡ true → digits (slice (at + 1) (at + 6) s) ≡ true
+pub group-digits : (s : List ℕ) (at : ℕ) → isNumber (groupAt s at) ≡ true → digits (slice (at + 1) (at + 6) s) ≡ true
 group-digits s at h = five-digits s at (rw (eq-eqb (getD s at 0) 32 (group-space s at h)) at h)
 
 groups-printed : (k : ℕ) (s : List ℕ) (at low end to : ℕ) → risingOf k s at low end ≡ true → at + 6 * k ≡ to → to ≤ length s
@@ -67,15 +67,15 @@ trailer-printed k s t h w =
 
 -- ---- the sections
 
-part-printed : (z : Section) (s : List ℕ) (t n : ℕ) (rest : List ℕ) → startOf z s t ≤ endOf z s t → endOf z s t ≤ length s → partOf z s t ≡ Check.Good n
-    → drop (endOf z s t) s ≡ rest → drop (startOf z s t) s ≡ rowsPrinted z s t ++ rest
+part-printed : (z : Section) (s : List ℕ) (t n : ℕ) (rest : List ℕ) → sectionStart z s t ≤ sectionEnd z s t → sectionEnd z s t ≤ length s → partOf z s t ≡ Check.Good n
+    → drop (sectionEnd z s t) s ≡ rest → drop (sectionStart z s t) s ≡ rowsPrinted z s t ++ rest
 unfolding partOf bytesOf
 part-printed z s t n rest h k g q =
-    sym (slice-join s (startOf z s t) (endOf z s t) h k) ∙ ap (λ (x : List ℕ). slice (startOf z s t) (endOf z s t) s ++ x) q
-    ∙ ap (λ (x : List ℕ). x ++ rest) (section-printed z (startOf z s t) (slice (startOf z s t) (endOf z s t) s) n g)
+    sym (slice-join s (sectionStart z s t) (sectionEnd z s t) h k) ∙ ap (λ (x : List ℕ). slice (sectionStart z s t) (sectionEnd z s t) s ++ x) q
+    ∙ ap (λ (x : List ℕ). x ++ rest) (section-printed z (sectionStart z s t) (slice (sectionStart z s t) (sectionEnd z s t) s) n g)
 
-end-inside : (s : List ℕ) (z : Section) → Within (startOf z s (trailerStart s)) (endOf z s (trailerStart s)) (trailerStart s) → trailerLength ≤ length s
-    → endOf z s (trailerStart s) ≤ length s
+end-inside : (s : List ℕ) (z : Section) → Within (sectionStart z s (trailerStart s)) (sectionEnd z s (trailerStart s)) (trailerStart s) → trailerLength ≤ length s
+    → sectionEnd z s (trailerStart s) ≤ length s
 end-inside s z w h = omega (arith, w .inside)
 
 -- ---- the whole
@@ -98,6 +98,6 @@ text-printed s c h =
 
 -- every field of every row is what is asked of it
 pub fields-sound : (s : List ℕ) (t n : ℕ) (z : Section) → partOf z s t ≡ Check.Good n → (k : ℕ) → k < length (rowsOf (bytesOf z s t))
-    → Sound z (getD (tableOf (bytesOf z s t)) k [])
+    → Sound z (getD (fieldTable (bytesOf z s t)) k [])
 unfolding partOf
-fields-sound s t n z h k i = section-sound z (startOf z s t) (bytesOf z s t) n h k i
+fields-sound s t n z h k i = section-sound z (sectionStart z s t) (bytesOf z s t) n h k i

@@ -2,19 +2,19 @@
 use Prim.Native.Nat.{_+_, _-_, _≤_}
 use native.Mathlib.Omega.{arith}
 use lib.ListN.{length}
-use Rattle.columns.specs.Columns.{realAt}
+use Rattle.columns.specs.Columns.{realField}
 use Rattle.columns.specs.Columns.Laws.{Filling, fill-starts, fill-ends, fill-stops, fill-room, fill-turn}
 use Rattle.columns.proofs.fill_reals.Statement.{statement}
 use Rattle.columns.proofs.fill_reals.Tie as tie
 
 abbrev Inv-loop : tie.InvT-loop
-Inv-loop s a e j out₀ i₀ r₀ out i r = Filling (realAt j) s a e out₀ i r out
+Inv-loop s a e j out₀ i₀ r₀ out i r = Filling (realField j) s a e out₀ i r out
 
 abbrev μ-loop : tie.MeasureT-loop
 μ-loop s a e j out₀ i₀ r₀ out i r = e - i
 
 loop-holds : tie.Need-loop-holds Inv-loop μ-loop
-loop-holds c = let a = c .before .before .args in fill-starts (realAt (a .j)) (a .s .now) (a .a) (a .e) (a .out .now) (omega arith) (omega arith)
+loop-holds c = let a = c .before .before .args in fill-starts (realField (a .j)) (a .s .now) (a .a) (a .e) (a .out .now) (omega arith) (omega arith)
 
 returns : tie.Need-returns Inv-loop μ-loop
 returns c =

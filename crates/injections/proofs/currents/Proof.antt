@@ -4,14 +4,15 @@ use mathlib.Core.Path.{_≡_, refl}
 use native.Mathlib.Omega.{arith}
 use native.Mathlib.Numerals.{add-one}
 use lib.ListN.{length}
-use Rattle.injections.specs.Injections.{ybus, currentsTo}
+use Rattle.network.specs.Network.{tripletsOf}
+use Rattle.injections.specs.Injections.{currentsTo}
 use Rattle.injections.specs.Injections.Laws.{currents-turn}
 use Rattle.injections.proofs.currents.Statement.{statement}
 use Rattle.injections.proofs.currents.Tie as tie
 
 abbrev Inv-loop : tie.InvT-loop
 Inv-loop n y-row y-col y-re y-im v re₀ im₀ t₀ t-end re im t =
-    (t ≤ t-end) × (t-end ≡ length y-row) × (re ≡ currentsTo t (ybus y-row y-col y-re y-im) v .re) × (im ≡ currentsTo t (ybus y-row y-col y-re y-im) v .im)
+    (t ≤ t-end) × (t-end ≡ length y-row) × (re ≡ currentsTo t (tripletsOf y-row y-col y-re y-im) v .re) × (im ≡ currentsTo t (tripletsOf y-row y-col y-re y-im) v .im)
 
 abbrev μ-loop : tie.MeasureT-loop
 μ-loop n y-row y-col y-re y-im v re₀ im₀ t₀ t-end re im t = t-end - t

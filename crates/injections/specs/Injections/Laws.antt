@@ -17,7 +17,8 @@ use Rattle.complex.specs.Numbers.{sumOf, productOf}
 use Rattle.layout.specs.Table.Laws.{table-at, table-past}
 use Rattle.injections.specs.declared.Column.{Column}
 use Rattle.injections.specs.declared.Phasors.{Phasors}
-use Rattle.injections.specs.Injections.{Ybus, GoodTriplets, rowOf, colOf, entryOf, at, stored, complexColumn, voltageAt, voltagesOf, currentsTo, phasorsOf, powerAt, injectedOf}
+use Rattle.network.specs.Network.{Triplets}
+use Rattle.injections.specs.Injections.{GoodTriplets, rowOf, colOf, entryOf, at, stored, complexColumn, voltageAt, voltagesOf, currentsTo, phasorsOf, powerAt, injectedOf}
 
 -- ---- columns
 
@@ -34,18 +35,18 @@ voltages-at n vm va b p few = column-at n (voltageAt vm va) b p few
 
 -- ---- currents
 
-pub currents-turn : (k : ℕ) (y : Ybus) (v : Column)
+pub currents-turn : (k : ℕ) (y : Triplets) (v : Column)
     → currentsTo (suc k) y v
     ≡ stored (currentsTo k y v) (rowOf y k) (sumOf (at (currentsTo k y v) (rowOf y k)) (productOf (entryOf y k) (at v (colOf y k))))
 unfolding currentsTo
 currents-turn k y v = refl
 
 -- the products of the first k triplets whose row is bus b, summed from zero in triplet order
-unfoldable pub currentAt : ℕ → Ybus → Column → ℕ → Complex
+unfoldable pub currentAt : ℕ → Triplets → Column → ℕ → Complex
 currentAt zero y v b = Numbers.zero
 currentAt (suc k) y v b = cond (eqb b (rowOf y k)) (sumOf (currentAt k y v b) (productOf (entryOf y k) (at v (colOf y k)))) (currentAt k y v b)
 
-module _ (y : Ybus) (v : Column) where
+module _ (y : Triplets) (v : Column) where
   currents-size : (k : ℕ) → (length (currentsTo k y v .re) ≡ 32) × (length (currentsTo k y v .im) ≡ 32)
   unfolding currentsTo
   currents-size zero = (length-replicate 32 nought, length-replicate 32 nought)
@@ -80,7 +81,7 @@ module _ (y : Ybus) (v : Column) where
 
 -- ---- phasors
 
-module _ (n : ℕ) (y : Ybus) (vm va : List Float) where
+module _ (n : ℕ) (y : Triplets) (vm va : List Float) where
   pub v-at : (b : ℕ) → b < n → n ≤ 32 → at (phasorsOf n y vm va .v) b ≡ voltageAt vm va b
   unfolding phasorsOf
   v-at b p few = voltages-at n vm va b p few

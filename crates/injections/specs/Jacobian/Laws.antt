@@ -17,7 +17,8 @@ use Rattle.linsolve.specs.Linear as Linear
 use Rattle.linsolve.specs.Linear.{added}
 use Rattle.injections.specs.declared.Phasors.{Phasors}
 use Rattle.injections.specs.declared.Derivatives.{Derivatives}
-use Rattle.injections.specs.Injections.{Ybus, rowOf, colOf, at, voltagesOf}
+use Rattle.network.specs.Network.{Triplets}
+use Rattle.injections.specs.Injections.{rowOf, colOf, at, voltagesOf}
 use Rattle.injections.specs.Injections.Laws.{voltages-at}
 use Rattle.injections.specs.Jacobian.{unitAt, onDiagonal, offDiagonal, derivativesOf, entered, enteredRow, enteredAll, derivativesAt, jacobianTo, jacobianOf}
 
@@ -60,7 +61,7 @@ unit-at n va b p few = voltages-at n (replicate 32 one) va b p few ∙ rw (getD-
 
 -- ---- turn and end
 
-module _ (y : Ybus) (va : List Float) (s : Phasors) (l : AcPfLayout) (w : List Float) where
+module _ (y : Triplets) (va : List Float) (s : Phasors) (l : AcPfLayout) (w : List Float) where
   pub jacobian-end : jacobianTo 0 y va s l w ≡ w
   unfolding jacobianTo
   jacobian-end = refl
@@ -101,7 +102,7 @@ entered-all-beyond p q va vm d w =
     rw (entered-all p q va vm d w)
     (beyond-on (entered-beyond p va _ w) (beyond-on (entered-beyond p vm _ _) (beyond-on (entered-beyond q va _ _) (entered-beyond q vm _ _))))
 
-module _ (y : Ybus) (va : List Float) (s : Phasors) (l : AcPfLayout) (w : List Float) where
+module _ (y : Triplets) (va : List Float) (s : Phasors) (l : AcPfLayout) (w : List Float) where
   jacobian-beyond : (k : ℕ) → Beyond w (jacobianTo k y va s l w)
   jacobian-beyond zero = rw (jacobian-end y va s l w) (beyond-all w)
   jacobian-beyond (suc k) = rw (jacobian-turn y va s l w k) (beyond-on (jacobian-beyond k) (entered-all-beyond _ _ _ _ _ _))

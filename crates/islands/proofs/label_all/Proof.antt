@@ -4,7 +4,7 @@ use Prim.Native.Nat.{ℕ, _≤_, _-_}
 use mathlib.Core.Path.{_≡_, refl}
 use Rattle.real.specs.Each.{each}
 use Rattle.islands.specs.Forest.{Forest}
-use Rattle.islands.specs.Islands.{isFirst, labelBy, tableOf}
+use Rattle.islands.specs.Islands.{isFirst, labelBy, labelTable}
 use Rattle.islands.specs.Islands.Laws.{tally-le, table-turn}
 use Rattle.islands.proofs.Numbering.{Numbered, none-yet, numbered-turn}
 use Rattle.islands.proofs.label_all.Statement.{statement}
@@ -13,7 +13,7 @@ use Rattle.islands.proofs.label_all.Tie as tie
 abbrev Inv-loop : tie.InvT-loop
 Inv-loop n parent₀ label₀ out₀ bus₀ parent label out bus =
     (bus ≤ n)
-    × ((rank root : ℕ → ℕ) → Forest rank root parent₀ → Forest rank root parent × Numbered root bus label × (out ≡ tableOf bus (each bus (labelBy root))))
+    × ((rank root : ℕ → ℕ) → Forest rank root parent₀ → Forest rank root parent × Numbered root bus label × (out ≡ labelTable bus (each bus (labelBy root))))
 
 abbrev μ-loop : tie.MeasureT-loop
 μ-loop n parent₀ label₀ out₀ bus₀ parent label out bus = n - bus

@@ -15,7 +15,7 @@ use Rattle.real.specs.Tests.{same-or-not, below-or, same-or-below}
 use Rattle.real.specs.Counting.{counted, rising, strictly, growth, met}
 use Rattle.real.specs.Each.{each}
 use Rattle.real.specs.Each.Laws.{length-each, each-at, is-each}
-use Rattle.islands.specs.Islands.{Linked, line, self, back, via, Joined, First, Firsts, none, one, other, Labelled, moved, groupOf, islandOf, lowest, firstOf, tally, isFirst, labelBy, labelOf, labelsOf, tableOf}
+use Rattle.islands.specs.Islands.{Linked, line, self, back, via, Joined, First, Firsts, none, one, other, Labelled, moved, groupOf, islandOf, lowest, firstOf, tally, isFirst, labelBy, labelOf, labelsOf, labelTable}
 
 pub moved-met : (a b c : ℕ) → c ≡ b → moved a b c ≡ a
 moved-met a b c e = rw (eq-eqb c b e)
@@ -272,7 +272,7 @@ module _ (from to : List ℕ) where
 
 -- ---- the table
 
-pub table-turn : (k : ℕ) (f : ℕ → ℕ) → k < 32 → set (tableOf k (each k f)) k (f k) ≡ tableOf (k + 1) (each (k + 1) f)
+pub table-turn : (k : ℕ) (f : ℕ → ℕ) → k < 32 → set (labelTable k (each k f)) k (f k) ≡ labelTable (k + 1) (each (k + 1) f)
 unfolding each
 table-turn k f h =
     let e : 32 - k ≡ suc (32 - suc k) = omega arith in
@@ -288,10 +288,10 @@ module _ (n : ℕ) (from to : List ℕ) where
   unfolding labelsOf
   labels-at = each-at n (labelOf from to) 0
 
-  pub table-at : (i : ℕ) → i < n → getD (tableOf n (labelsOf n from to)) i 0 ≡ labelOf from to i
+  pub table-at : (i : ℕ) → i < n → getD (labelTable n (labelsOf n from to)) i 0 ≡ labelOf from to i
   table-at i h = List·getD-append (labelsOf n from to) (replicate (32 - n) 0) 0 i (rw length-labels h) ∙ labels-at i h
 
-  pub table-labelled : Labelled n from to (λ i. getD (tableOf n (labelsOf n from to)) i 0)
+  pub table-labelled : Labelled n from to (λ i. getD (labelTable n (labelsOf n from to)) i 0)
   table-labelled = record {
     same = λ i j h l. rw (table-at i h, table-at j l) (labels-same from to i j);
     counts = λ i f h. rw (table-at i h) (labels-count from to i f);

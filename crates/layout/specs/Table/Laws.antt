@@ -1,4 +1,4 @@
--- The laws of `stores` and `table`, over any type of element; and what it says that all numbers are below one. Assumes nothing.
+-- The laws of `stores` and `table`, over any type of element. Assumes nothing.
 use Prim.Native.Nat.{ℕ, zero, suc, _≤_, _<_}
 use mathlib.Core.Path.{_≡_, refl, sym, ap, _∙_}
 use mathlib.Core.Bool.{Bool, true, false, cond}
@@ -6,12 +6,12 @@ use mathlib.Core.List.{List, _∷_}
 use mathlib.Core.Logic.{⊎-elim}
 use native.Mathlib.Nat.{not-suc-le-zero}
 use native.Mathlib.Omega.{arith}
-use borrow.Author.Tests.{eq-eqb, eqb-true, eqb-false, lt-ltb, ltb-true, ltb-false}
+use borrow.Author.Tests.{eq-eqb, eqb-true, eqb-false, ltb-true, ltb-false}
 use lib.Dec.{eqb, ltb}
 use lib.ListN.{length, getD, set, replicate, length-set, length-replicate, getD-replicate}
 use lib.Seq.{ext-getD, getD-set-same, getD-set-other}
-use Rattle.real.specs.Tests.{both, both-l, both-r, same-or-below}
-use Rattle.layout.specs.Table.{stores, table, Below, allBelow}
+use Rattle.real.specs.Tests.{same-or-below}
+use Rattle.layout.specs.Table.{stores, table}
 
 module _ {A : Type 0} where
   pub stores-length : (f : ℕ → A) (k : ℕ) (l : List A) → length (stores f k l) ≡ length l
@@ -78,22 +78,3 @@ module _ {A : Type 0} where
   unfolding stores
   table-same zero z = refl
   table-same (suc k) z = rw (table-same k z) (same-set 32 k z)
-
--- ---- the numbers of a list, below n
-
-below-at : (k n : ℕ) (l : List ℕ) → allBelow k n l ≡ true → (i : ℕ) → i < k → getD l i 0 < n
-unfolding allBelow
-below-at zero n l h i p = absurd (not-suc-le-zero p)
-below-at (suc k) n l h i p =
-    ⊎-elim (λ e. rw e (ltb-true (getD l k 0) n (both-r (allBelow k n l) _ h))) (λ q. below-at k n l (both-l _ (ltb (getD l k 0) n) h) i q) (same-or-below p)
-
-at-below : (k n : ℕ) (l : List ℕ) → ((i : ℕ) → i < k → getD l i 0 < n) → allBelow k n l ≡ true
-unfolding allBelow both
-at-below zero n l h = refl
-at-below (suc k) n l h = rw (at-below k n l (λ i p. h i (omega arith)), lt-ltb (getD l k 0) n (h k (omega arith)))
-
-pub all-below : (n : ℕ) (l : List ℕ) → allBelow (length l) n l ≡ true → Below n l
-all-below n l h = below-at (length l) n l h
-
-pub below-all : (n : ℕ) (l : List ℕ) → Below n l → allBelow (length l) n l ≡ true
-below-all n l h = at-below (length l) n l h

@@ -1,13 +1,13 @@
 -- `lines::put_bus` meets its contract: its parts in turn. Assumes nothing.
 use native.Mathlib.Omega.{arith}
 use borrow.Author.Needs.{needs}
-use Rattle.lines.specs.Lines.{busOf}
+use Rattle.lines.specs.Lines.{busLine}
 use Rattle.lines.specs.Lines.Laws.{then}
 use Rattle.lines.proofs.put_bus.Statement.{statement}
 use Rattle.lines.proofs.put_bus.Tie as tie
 
 returns : tie.Need-returns
-unfolding busOf
+unfolding busLine
 returns c =
     let i = c .before .before in
     let h = i .before .before .before .before in

@@ -5,23 +5,23 @@ use native.Mathlib.Omega.{arith}
 use native.Mathlib.Numerals.{add-one}
 use borrow.Author.Needs.{needs}
 use lib.ListN.{length}
-use Rattle.lines.specs.Lines.{Wrote, busesOf}
+use Rattle.lines.specs.Lines.{Wrote, busLines}
 use Rattle.lines.specs.Lines.Laws.{nothing, then}
 use Rattle.lines.proofs.put_buses.Statement.{statement}
 use Rattle.lines.proofs.put_buses.Tie as tie
 
 abbrev Inv-loop : tie.InvT-loop
-Inv-loop n vm va p q kinds at out₀ k₀ b₀ out k b = (b ≤ n) × (length out ≡ length out₀) × (k ≤ at + 91 * b) × Wrote out₀ at (busesOf b vm va p q kinds) k out
+Inv-loop n vm va p q kinds at out₀ k₀ b₀ out k b = (b ≤ n) × (length out ≡ length out₀) × (k ≤ at + 91 * b) × Wrote out₀ at (busLines b vm va p q kinds) k out
 
 abbrev μ-loop : tie.MeasureT-loop
 μ-loop n vm va p q kinds at out₀ k₀ b₀ out k b = n - b
 
 loop-holds : tie.Need-loop-holds Inv-loop μ-loop
-unfolding busesOf
+unfolding busLines
 loop-holds c = (omega arith, search needs, omega arith, nothing _ _)
 
 loop-again : tie.Need-loop-again Inv-loop μ-loop
-unfolding busesOf
+unfolding busLines
 loop-again c =
     let b = c .before .before in
     let l = b .before .before .before .before .before .before .before .before in

@@ -1,13 +1,13 @@
 -- `lines::put_ok` meets its contract: its parts in turn. Assumes nothing.
 use native.Mathlib.Omega.{arith}
 use borrow.Author.Needs.{needs}
-use Rattle.lines.specs.Lines.{okOf}
+use Rattle.lines.specs.Lines.{okLine}
 use Rattle.lines.specs.Lines.Laws.{then}
 use Rattle.lines.proofs.put_ok.Statement.{statement}
 use Rattle.lines.proofs.put_ok.Tie as tie
 
 returns : tie.Need-returns
-unfolding okOf
+unfolding okLine
 returns c =
     let e = c .before .before in
     let d = e .before .before .before .before in

@@ -12,7 +12,7 @@ use lib.Seq.{sets, take-suc, length-take-le}
 use lib.Ieee.{Float, binary64, isNan, toBits}
 use Rattle.io.specs.Digits.{glyph, digits, Fewest}
 use Rattle.real.specs.Paper.{Value}
-use Rattle.lines.specs.Lines.{decimalBy, realOf, valueOf, valuesOf, headOf, refusedOf, Wrote}
+use Rattle.lines.specs.Lines.{decimalBy, printedReal, printedValue, printedValues, headOf, refusedLine, Wrote}
 
 -- ---- bytes after bytes
 
@@ -74,28 +74,28 @@ fewest-fits b least most n k hb hl hn h = go (leb k most) refl
 
 -- ---- reals
 
-pub real-nan : (x : Float) → isNan x ≡ true → 110 ∷ 97 ∷ 110 ∷ [] ≡ realOf x
-unfolding realOf
+pub real-nan : (x : Float) → isNan x ≡ true → 110 ∷ 97 ∷ 110 ∷ [] ≡ printedReal x
+unfolding printedReal
 real-nan x h = rw h refl
 
-pub real-is : (x : Float) → isNan x ≡ false → digits 16 16 (toBits binary64 x) ≡ realOf x
-unfolding realOf
+pub real-is : (x : Float) → isNan x ≡ false → digits 16 16 (toBits binary64 x) ≡ printedReal x
+unfolding printedReal
 real-is x h = rw h refl
 
 -- ---- refusals
 
 module _ (n : ℕ) {l m : List ℕ} {r : ℕ} where
-  pub bare : Wrote l 0 (headOf n ++ (10 ∷ [])) r m → Wrote l 0 (refusedOf n []) r m
-  unfolding refusedOf valuesOf
+  pub bare : Wrote l 0 (headOf n ++ (10 ∷ [])) r m → Wrote l 0 (refusedLine n []) r m
+  unfolding refusedLine printedValues
   bare w = same-bytes (ap (λ (a : List ℕ). a ++ (10 ∷ [])) (sym (append-nil (headOf n)))) w
 
-  pub one-value : (v : Value) → Wrote l 0 (headOf n ++ valueOf v ++ (10 ∷ [])) r m → Wrote l 0 (refusedOf n (v ∷ [])) r m
-  unfolding refusedOf valuesOf
-  one-value v w = same-bytes (ap (λ (a : List ℕ). headOf n ++ a ++ (10 ∷ [])) (sym (append-nil (valueOf v)))) w
+  pub one-value : (v : Value) → Wrote l 0 (headOf n ++ printedValue v ++ (10 ∷ [])) r m → Wrote l 0 (refusedLine n (v ∷ [])) r m
+  unfolding refusedLine printedValues
+  one-value v w = same-bytes (ap (λ (a : List ℕ). headOf n ++ a ++ (10 ∷ [])) (sym (append-nil (printedValue v)))) w
 
-  pub two-values : (v u : Value) → Wrote l 0 (headOf n ++ valueOf v ++ valueOf u ++ (10 ∷ [])) r m → Wrote l 0 (refusedOf n (v ∷ u ∷ [])) r m
-  unfolding refusedOf valuesOf
+  pub two-values : (v u : Value) → Wrote l 0 (headOf n ++ printedValue v ++ printedValue u ++ (10 ∷ [])) r m → Wrote l 0 (refusedLine n (v ∷ u ∷ [])) r m
+  unfolding refusedLine printedValues
   two-values v u w =
       same-bytes
-      (ap (λ (a : List ℕ). a ++ (10 ∷ [])) (append-assoc (headOf n) (valueOf v) (valueOf u) ∙ ap (λ (a : List ℕ). headOf n ++ (valueOf v ++ a)) (sym (append-nil (valueOf u)))))
+      (ap (λ (a : List ℕ). a ++ (10 ∷ [])) (append-assoc (headOf n) (printedValue v) (printedValue u) ∙ ap (λ (a : List ℕ). headOf n ++ (printedValue v ++ a)) (sym (append-nil (printedValue u)))))
       w

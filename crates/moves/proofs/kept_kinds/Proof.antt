@@ -7,12 +7,12 @@ use borrow.Author.Needs.{needs}
 use Rattle.layout.specs.declared.BusKind.the-variants.{Slack}
 use Rattle.layout.specs.Layout.{kindOf}
 use Rattle.layout.specs.Table.{stores, table}
-use Rattle.moves.specs.Moves.{kindAt, keptKinds}
+use Rattle.moves.specs.Moves.{asKindAt, keptKinds}
 use Rattle.moves.proofs.kept_kinds.Statement.{statement}
 use Rattle.moves.proofs.kept_kinds.Tie as tie
 
 abbrev Inv-loop : tie.InvT-loop
-Inv-loop n kinds t₀ b₀ t b = (b ≤ n) × (t ≡ table b (kindAt Slack) (λ i. kindAt (kindOf kinds i)))
+Inv-loop n kinds t₀ b₀ t b = (b ≤ n) × (t ≡ table b (asKindAt Slack) (λ i. asKindAt (kindOf kinds i)))
 
 abbrev μ-loop : tie.MeasureT-loop
 μ-loop n kinds t₀ b₀ t b = n - b

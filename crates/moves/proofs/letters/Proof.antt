@@ -5,12 +5,12 @@ use native.Mathlib.Omega.{arith}
 use native.Mathlib.Numerals.{add-one}
 use borrow.Author.Needs.{needs}
 use Rattle.layout.specs.Table.{stores, table}
-use Rattle.moves.specs.Moves.{keptKind, letterOf, lettersOf}
+use Rattle.moves.specs.Moves.{keptKind, kindLetter, lettersOf}
 use Rattle.moves.proofs.letters.Statement.{statement}
 use Rattle.moves.proofs.letters.Tie as tie
 
 abbrev Inv-loop : tie.InvT-loop
-Inv-loop n kinds ls₀ b₀ ls b = (b ≤ n) × (ls ≡ table b 0 (λ i. letterOf (keptKind kinds i)))
+Inv-loop n kinds ls₀ b₀ ls b = (b ≤ n) × (ls ≡ table b 0 (λ i. kindLetter (keptKind kinds i)))
 
 abbrev μ-loop : tie.MeasureT-loop
 μ-loop n kinds ls₀ b₀ ls b = n - b

@@ -5,7 +5,7 @@ use native.Mathlib.Omega.{arith}
 use borrow.Author.Needs.{needs}
 use borrow.Author.Tests.{not-true, not-false}
 use lib.ListN.{length}
-use Rattle.injections.specs.Injections.{ybus}
+use Rattle.network.specs.Network.{tripletsOf}
 use Rattle.newton.specs.Newton.{problem, measuredOf, stepsFrom, newtonOf}
 use Rattle.newton.specs.Newton.Laws.{fuel, newton-begins, steps-none, steps-done, steps-singular, steps-stuck, steps-on}
 use Rattle.newton.proofs.newton.Statement.{statement}
@@ -14,7 +14,7 @@ use Rattle.newton.proofs.newton.Tie as tie
 abbrev Inv-loop : tie.InvT-loop
 Inv-loop y-row y-col y-re y-im layout pd qd pg qg w₀ p₀ m₀ it₀ w p m it =
     (it ≤ 50) × (length w ≡ length w₀)
-    × (stepsFrom (50 - it) it (measuredOf (problem (ybus y-row y-col y-re y-im) layout pd qd pg qg)) (ybus y-row y-col y-re y-im) layout p m w ≡ newtonOf (problem (ybus y-row y-col y-re y-im) layout pd qd pg qg) p₀ w₀)
+    × (stepsFrom (50 - it) it (measuredOf (problem (tripletsOf y-row y-col y-re y-im) layout pd qd pg qg)) (tripletsOf y-row y-col y-re y-im) layout p m w ≡ newtonOf (problem (tripletsOf y-row y-col y-re y-im) layout pd qd pg qg) p₀ w₀)
 
 abbrev μ-loop : tie.MeasureT-loop
 μ-loop y-row y-col y-re y-im layout pd qd pg qg w₀ p₀ m₀ it₀ w p m it = 50 - it

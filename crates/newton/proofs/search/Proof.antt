@@ -4,7 +4,7 @@ use mathlib.Core.Path.{_≡_, sym, _∙_}
 use native.Mathlib.Omega.{arith}
 use borrow.Author.Needs.{needs}
 use Rattle.real.specs.Literals.{one}
-use Rattle.injections.specs.Injections.{ybus}
+use Rattle.network.specs.Network.{tripletsOf}
 use Rattle.newton.specs.Newton.{problem, measuredOf, triesFrom}
 use Rattle.newton.specs.Newton.Laws.{fuel, tries-hit, tries-miss, tries-none}
 use Rattle.newton.proofs.search.Statement.{statement}
@@ -13,7 +13,7 @@ use Rattle.newton.proofs.search.Tie as tie
 abbrev Inv-loop : tie.InvT-loop
 Inv-loop y-row y-col y-re y-im layout pd qd pg qg p m w alpha₀ k₀ alpha k =
     (k ≤ 12)
-    × (triesFrom (12 - k) (measuredOf (problem (ybus y-row y-col y-re y-im) layout pd qd pg qg)) layout p m w alpha ≡ triesFrom 12 (measuredOf (problem (ybus y-row y-col y-re y-im) layout pd qd pg qg)) layout p m w one)
+    × (triesFrom (12 - k) (measuredOf (problem (tripletsOf y-row y-col y-re y-im) layout pd qd pg qg)) layout p m w alpha ≡ triesFrom 12 (measuredOf (problem (tripletsOf y-row y-col y-re y-im) layout pd qd pg qg)) layout p m w one)
 
 abbrev μ-loop : tie.MeasureT-loop
 μ-loop y-row y-col y-re y-im layout pd qd pg qg p m w alpha₀ k₀ alpha k = 12 - k

@@ -12,7 +12,8 @@ use Rattle.linsolve.specs.declared.Solution.{Solution}
 use Rattle.linsolve.specs.declared.Solution.the-variants as Solution
 use Rattle.linsolve.specs.Linear.{Outcome, outcome, answerOf, spaceOf, cleared, solution}
 use Rattle.injections.specs.declared.Injections.{Injections}
-use Rattle.injections.specs.Injections.{Ybus, injectionsOf}
+use Rattle.network.specs.Network.{Triplets}
+use Rattle.injections.specs.Injections.{injectionsOf}
 use Rattle.injections.specs.Jacobian.{jacobianOf}
 use Rattle.layout.specs.Residual.{powers, residualOf}
 use Rattle.real.specs.Norm.{normOf}
@@ -36,7 +37,7 @@ pub measured-is : (g : Problem) (p : Point) (found : Injections) → found ≡ i
 unfolding measuredOf
 measured-is g p found ef r er x ex = rw (ex, er, ef)
 
-pub direction-is : (y : Ybus) (l : AcPfLayout) (va : List Float) (m : Measured) (w w₁ w₂ w₃ : List Float) (o : Outcome) → w₁ ≡ cleared (l .dim) w
+pub direction-is : (y : Triplets) (l : AcPfLayout) (va : List Float) (m : Measured) (w w₁ w₂ w₃ : List Float) (o : Outcome) → w₁ ≡ cleared (l .dim) w
     → w₂ ≡ jacobianOf y va (m .phasors) l w₁ → w₃ ≡ sidesTo (l .dim) (m .r) w₂ → o ≡ solution (l .dim) w₃ → o ≡ directionOf y l va m w
 unfolding directionOf
 direction-is y l va m w w₁ w₂ w₃ o e₁ e₂ e₃ eo = rw (eo, e₃, e₂, e₁)
@@ -74,7 +75,7 @@ tries-none at l p m w alpha = refl
 
 -- ---- the steps
 
-module _ (it : ℕ) (at : Point → Measured) (y : Ybus) (l : AcPfLayout) (p : Point) (m : Measured) (w : List Float) where
+module _ (it : ℕ) (at : Point → Measured) (y : Triplets) (l : AcPfLayout) (p : Point) (m : Measured) (w : List Float) where
   pub steps-none : (how : Ending) → how ≡ lastEnding (m .residual) → run (ended p 49 m how) w ≡ stepsFrom 0 it at y l p m w
   unfolding stepsFrom
   steps-none how e = rw e
@@ -111,7 +112,7 @@ newton-same g h ey el em p w = sym (newton-begins g p w) ∙ (λ i. stepsFrom 50
 
 -- ---- what is carried with a point is what is measured there, so the phasors of an end are those at its point
 
-module _ (at : Point → Measured) (y : Ybus) (l : AcPfLayout) where
+module _ (at : Point → Measured) (y : Triplets) (l : AcPfLayout) where
   abbrev Fits : Trial → Type 0
   Fits t = t .at ≡ at (t .point)
 

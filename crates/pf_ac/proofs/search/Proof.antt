@@ -6,18 +6,18 @@ use mathlib.Core.Path.{_≡_, refl, sym, _∙_}
 use native.Mathlib.Omega.{arith}
 use borrow.Author.Needs.{needs}
 use lib.ListN.{length}
-use Rattle.injections.specs.Injections.{ybus}
+use Rattle.network.specs.Network.{tripletsOf}
 use Rattle.newton.specs.Newton.Laws.{fuel}
 use Rattle.qlim.specs.Rounds.{study}
 use Rattle.pf_ac.specs.Search.{searchFrom, searchOf}
-use Rattle.pf_ac.specs.Search.Laws.{judged-below, judged-above, judged-solved, search-none, search-ends, search-on, search-begins}
+use Rattle.pf_ac.specs.Search.Laws.{verdict-below, verdict-above, verdict-solved, search-none, search-ends, search-on, search-begins}
 use Rattle.pf_ac.proofs.search.Statement.{statement}
 use Rattle.pf_ac.proofs.search.Tie as tie
 
 abbrev Inv-loop : tie.InvT-loop
 Inv-loop start n kinds y-row y-col y-re y-im pd qd pg qg limits vm-hold first flat w₀ count best₀ i₀ w best i =
     (i ≤ count) × (length w ≡ length w₀)
-    × (searchFrom (count - i) i start (study n (ybus y-row y-col y-re y-im) pd qd pg qg limits vm-hold) kinds first flat best w ≡ searchOf start (study n (ybus y-row y-col y-re y-im) pd qd pg qg limits vm-hold) kinds first flat w₀)
+    × (searchFrom (count - i) i start (study n (tripletsOf y-row y-col y-re y-im) pd qd pg qg limits vm-hold) kinds first flat best w ≡ searchOf start (study n (tripletsOf y-row y-col y-re y-im) pd qd pg qg limits vm-hold) kinds first flat w₀)
 
 abbrev μ-loop : tie.MeasureT-loop
 μ-loop start n kinds y-row y-col y-re y-im pd qd pg qg limits vm-hold first flat w₀ count best₀ i₀ w best i = count - i
@@ -54,8 +54,8 @@ returns c =
     let q = y .before .before .before in
     let p = q .before .before in
     let l = p .before .before in
-    let below = judged-below _ _ _ _ (j .judged .ensures) _ _ (c .enum-told2 .given .1) in
-    sym (search-ends _ _ _ _ _ _ _ _ _ _ (p .start-at .ensures) _ _ (q .solve-qlim .ensures) _ (y .better .ensures) _ (kept k) _ (judged-solved _ _ _ _ (j .judged .ensures) below) below)
+    let below = verdict-below _ _ _ _ (j .verdict .ensures) _ _ (c .enum-told2 .given .1) in
+    sym (search-ends _ _ _ _ _ _ _ _ _ _ (p .start-at .ensures) _ _ (q .solve-qlim .ensures) _ (y .better .ensures) _ (kept k) _ (verdict-solved _ _ _ _ (j .verdict .ensures) below) below)
     ∙ (rw (fuel _ _ (p .before .loop-test .taken)) at (l .loop .inv .2))
 
 loop-again : tie.Need-loop-again Inv-loop μ-loop
@@ -66,7 +66,7 @@ loop-again c =
     let q = y .before .before .before in
     let p = q .before .before in
     let l = p .before .before in
-    let above = judged-above _ _ _ _ (j .judged .ensures) _ _ (c .enum-told .given .1) in (
+    let above = verdict-above _ _ _ _ (j .verdict .ensures) _ _ (c .enum-told .given .1) in (
       omega (arith, p .before .loop-test .taken),
       q .solve-qlim .kept .1 .1 .1 .1 .1 .1 .1 .1 .1 .1 .1 .1 .1 .0 ∙ l .loop .inv .1,
       sym (search-on _ _ _ _ _ _ _ _ _ _ (p .start-at .ensures) _ _ (q .solve-qlim .ensures) _ (y .better .ensures) _ (kept k) above)

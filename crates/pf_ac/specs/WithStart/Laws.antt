@@ -14,7 +14,7 @@ use Rattle.starts.specs.declared.AcStart.{AcStart}
 use Rattle.starts.specs.Starts.{flatOf}
 use Rattle.injections.specs.Injections.{GoodTriplets}
 use Rattle.qlim.specs.Rounds.{study, GoodStudy}
-use Rattle.pf_ac.specs.Search.{Searched, firstOf, searchOf}
+use Rattle.pf_ac.specs.Search.{Searched, firstStart, searchOf}
 use Rattle.pf_ac.specs.WithStart.{tabled, kindsFor, limitsFor, referencesFor, acPfOf}
 
 module _ (t : Network) (r : WellIndexed t) where
@@ -35,7 +35,7 @@ module _ (t : Network) (r : WellIndexed t) where
 
 pub acPf-is : (start : AcStart) (t : Network) (w : List Float) (kinds : List BusKind) → kinds ≡ kindsFor t → (l : Limits) → l ≡ limitsFor t
     → (r : References) → r ≡ referencesFor t → (flat : Point) → flat ≡ flatOf (busCount t) (t .buses .vm-set) r
-    → (first : Point) → first ≡ firstOf start (busCount t) (t .buses .vm-set) (t .buses .vm-case) (t .buses .va-case) r flat
+    → (first : Point) → first ≡ firstStart start (busCount t) (t .buses .vm-set) (t .buses .vm-case) (t .buses .va-case) r flat
     → (qg : List Float) → qg ≡ tabled (busCount t) (t .buses .qg) → (hold : List Float) → hold ≡ tabled (busCount t) (t .buses .vm-set)
     → (x : Searched) → x ≡ searchOf start (study (busCount t) (t .triplets) (t .buses .pd) (t .buses .qd) (t .buses .pg) qg l hold) kinds first flat w
     → x ≡ acPfOf start t w

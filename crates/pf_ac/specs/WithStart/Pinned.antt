@@ -27,7 +27,7 @@ use Rattle.qlim.specs.Rounds.{Study, nothing, qlimOf}
 use Rattle.qlim.specs.Rounds.Unread.{start-unread}
 use Rattle.starts.specs.declared.AcStart.{AcStart}
 use Rattle.starts.specs.declared.AcStart.the-variants.{Flat, Case}
-use Rattle.pf_ac.specs.Search.{startOf, betterOf, tryOf, searchFrom, searchOf}
+use Rattle.pf_ac.specs.Search.{nthStart, betterOf, tryOf, searchFrom, searchOf}
 use Rattle.pf_ac.specs.WithStart.{kindsFor, studyFor, flatFor, firstFor, acPfOf}
 use Rattle.pf_ac.specs.WithStart.Withheld.{kindFor, SameAt}
 
@@ -69,17 +69,17 @@ module _ (n : ℕ) (few : n ≤ 32) (kinds : List BusKind) (hold va : List Float
 
 module _ (start : AcStart) (s : Study) (kinds : List BusKind) (p q flat : Point) (rounds : (w : List Float) → qlimOf s kinds p w ≡ qlimOf s kinds q w) where
   later : (m i : ℕ) (best : Settled) (w : List Float) → searchFrom m (suc i) start s kinds p flat best w ≡ searchFrom m (suc i) start s kinds q flat best w
-  unfolding searchFrom startOf
+  unfolding searchFrom nthStart
   later zero i best w = refl
   later (suc m) i best w = on (λ k v. rw (add-one (suc i)) (later m (suc i) k v))
     where
       on : ((k : Settled) (v : List Float) → searchFrom m (suc i + 1) start s kinds p flat k v ≡ searchFrom m (suc i + 1) start s kinds q flat k v)
-          → tryOf (eqb (suc i) 0) best (qlimOf s kinds (startOf start (s .n) kinds p flat (suc i)) w) (searchFrom m (suc i + 1) start s kinds p flat)
-          ≡ tryOf (eqb (suc i) 0) best (qlimOf s kinds (startOf start (s .n) kinds q flat (suc i)) w) (searchFrom m (suc i + 1) start s kinds q flat)
-      on h = λ j. tryOf (eqb (suc i) 0) best (qlimOf s kinds (startOf start (s .n) kinds p flat (suc i)) w) (λ k v. h k v j)
+          → tryOf (eqb (suc i) 0) best (qlimOf s kinds (nthStart start (s .n) kinds p flat (suc i)) w) (searchFrom m (suc i + 1) start s kinds p flat)
+          ≡ tryOf (eqb (suc i) 0) best (qlimOf s kinds (nthStart start (s .n) kinds q flat (suc i)) w) (searchFrom m (suc i + 1) start s kinds q flat)
+      on h = λ j. tryOf (eqb (suc i) 0) best (qlimOf s kinds (nthStart start (s .n) kinds p flat (suc i)) w) (λ k v. h k v j)
 
   first : (m : ℕ) (best best' : Settled) (w : List Float) → searchFrom (suc m) 0 start s kinds p flat best w ≡ searchFrom (suc m) 0 start s kinds q flat best' w
-  unfolding searchFrom startOf tryOf betterOf
+  unfolding searchFrom nthStart tryOf betterOf
   first m best best' w = λ j. tryOf true best (rounds w j) (λ k v. later m 0 k v j)
 
 search-pinned : (start : AcStart) (s : Study) (kinds : List BusKind) (p q flat : Point) → ((w : List Float) → qlimOf s kinds p w ≡ qlimOf s kinds q w)
@@ -92,8 +92,8 @@ search-pinned Case s kinds p q flat rounds w = first Case s kinds p q flat round
 -- ---- the solve
 
 -- t with other stored magnitudes
-abbrev pub stored : Network → List Float → Network
-stored t vm =
+abbrev pub withStored : Network → List Float → Network
+withStored t vm =
     let b = t .buses in
     networkOf (busesOf (b .kind) (b .vm-set) (b .pd) (b .qd) (b .pg) (b .qg) vm (b .va-case)) (t .slacks) (t .generators) (t .branches) (t .triplets)
 
@@ -111,12 +111,12 @@ module _ (t : Network) (few : busCount t ≤ 32) (vm : List Float)
       go (inr e) = inr (rw e)
 
   start-pinned : (start : AcStart)
-      → pinned (busCount t) (kindsFor t) (studyFor t .hold) (firstFor start t) ≡ pinned (busCount t) (kindsFor t) (studyFor t .hold) (firstFor start (stored t vm))
+      → pinned (busCount t) (kindsFor t) (studyFor t .hold) (firstFor start t) ≡ pinned (busCount t) (kindsFor t) (studyFor t .hold) (firstFor start (withStored t vm))
   unfolding caseOf
   start-pinned Flat = refl
   start-pinned Case = pin-alike (busCount t) few (kindsFor t) (studyFor t .hold) _ (caseVm set (t .buses .vm-case)) (caseVm set vm) figure
 
-  pub pinned-unread : (start : AcStart) (w : List Float) → acPfOf start t w ≡ acPfOf start (stored t vm) w
+  pub pinned-unread : (start : AcStart) (w : List Float) → acPfOf start t w ≡ acPfOf start (withStored t vm) w
   unfolding acPfOf
   pinned-unread start =
-      search-pinned start (studyFor t) (kindsFor t) (firstFor start t) (firstFor start (stored t vm)) (flatFor t) (start-unread (kindsFor t) (studyFor t) (firstFor start t) (firstFor start (stored t vm)) (start-pinned start))
+      search-pinned start (studyFor t) (kindsFor t) (firstFor start t) (firstFor start (withStored t vm)) (flatFor t) (start-unread (kindsFor t) (studyFor t) (firstFor start t) (firstFor start (withStored t vm)) (start-pinned start))

@@ -24,7 +24,7 @@ use Rattle.qlim.specs.Rounds.{Study, qlimOf, nothing}
 use Rattle.qlim.specs.Rounds.Unread.{AlikeStudies, rounds-unread}
 use Rattle.starts.specs.declared.AcStart.{AcStart}
 use Rattle.starts.specs.declared.AcStart.the-variants.{Flat}
-use Rattle.pf_ac.specs.Search.{startOf, tryOf, searchFrom, countOf, searchOf}
+use Rattle.pf_ac.specs.Search.{nthStart, tryOf, searchFrom, startCount, searchOf}
 use Rattle.pf_ac.specs.WithStart.{tabled, kindsFor, limitsFor, studyFor, flatFor, firstFor, acPfOf}
 
 -- 01's kind of bus b
@@ -85,8 +85,8 @@ module _ (start : AcStart) (s u : Study) (n : s .n ≡ u .n) (kinds : List BusKi
   unfolding searchFrom
   search-alike zero i best w = refl
   search-alike (suc m) i best w =
-      ap (λ (k : ℕ). tryOf (eqb i 0) best (qlimOf s kinds (startOf start k kinds first flat i) w) (searchFrom m (i + 1) start s kinds first flat)) n
-      ∙ (λ j. tryOf (eqb i 0) best (rounds (startOf start (u .n) kinds first flat i) w j) (λ k v. search-alike m (i + 1) k v j))
+      ap (λ (k : ℕ). tryOf (eqb i 0) best (qlimOf s kinds (nthStart start k kinds first flat i) w) (searchFrom m (i + 1) start s kinds first flat)) n
+      ∙ (λ j. tryOf (eqb i 0) best (rounds (nthStart start (u .n) kinds first flat i) w j) (λ k v. search-alike m (i + 1) k v j))
 
 -- ---- the studies
 
@@ -176,8 +176,8 @@ module _ (start : AcStart) (t u : Network) (few : busCount t ≤ 32) (a : Alike 
   unfolding acPfOf searchOf
   figures-unread w =
       search-alike start (studyFor t) (studyFor (with t u)) refl (kindsFor t) (rounds-unread (kindsFor t) (studyFor t) (studyFor (with t u)) few studies-alike) (firstFor start t) (flatFor t)
-      (countOf start) 0 (nothing (firstFor start t)) w
-      ∙ ap (λ (f : Point). searchFrom (countOf start) 0 start (studyFor (with t u)) (kindsFor t) f (flatFor t) (nothing f) w) first-alike
+      (startCount start) 0 (nothing (firstFor start t)) w
+      ∙ ap (λ (f : Point). searchFrom (startCount start) 0 start (studyFor (with t u)) (kindsFor t) f (flatFor t) (nothing f) w) first-alike
 
 pub withheld : (start : AcStart) (t u : Network) → busCount t ≤ 32 → Alike start t u → (w : List Float) → acPfOf start t w ≡ acPfOf start u w
 withheld start t u few a w =

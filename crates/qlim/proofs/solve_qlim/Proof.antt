@@ -5,7 +5,7 @@ use native.Mathlib.Omega.{arith}
 use borrow.Author.Tests.{not-true, not-false}
 use lib.ListN.{length}
 use lib.Ieee.{div, ofBits}
-use Rattle.injections.specs.Injections.{ybus}
+use Rattle.network.specs.Network.{tripletsOf}
 use Rattle.newton.specs.Newton.Laws.{fuel}
 use Rattle.qlim.specs.Rounds.{study, roundsFrom}
 use Rattle.qlim.specs.Rounds.Laws.{good-problem, rounds-short, rounds-still, rounds-spent, rounds-on, rounds-begin}
@@ -15,7 +15,7 @@ use Rattle.qlim.proofs.solve_qlim.Tie as tie
 abbrev Inv-loop : tie.InvT-loop
 Inv-loop n y-row y-col y-re y-im pd qd pg qg limits vm-hold w₀ kinds₀ t₀ p₀ round₀ w kinds t p round =
     (round ≤ 11) × (length w ≡ length w₀)
-    × (roundsFrom (11 - round) (study n (ybus y-row y-col y-re y-im) pd qd pg qg limits vm-hold) kinds t p w ≡ roundsFrom 11 (study n (ybus y-row y-col y-re y-im) pd qd pg qg limits vm-hold) kinds₀ t₀ p₀ w₀)
+    × (roundsFrom (11 - round) (study n (tripletsOf y-row y-col y-re y-im) pd qd pg qg limits vm-hold) kinds t p w ≡ roundsFrom 11 (study n (tripletsOf y-row y-col y-re y-im) pd qd pg qg limits vm-hold) kinds₀ t₀ p₀ w₀)
 
 abbrev μ-loop : tie.MeasureT-loop
 μ-loop n y-row y-col y-re y-im pd qd pg qg limits vm-hold w₀ kinds₀ t₀ p₀ round₀ w kinds t p round = 11 - round

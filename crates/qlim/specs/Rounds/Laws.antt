@@ -17,16 +17,16 @@ use Rattle.layout.specs.Layout.Laws.{dim-most}
 use Rattle.moves.specs.declared.Move.{Move}
 use Rattle.moves.specs.declared.Track.{Track}
 use Rattle.moves.specs.Moves.{movesOf, anyMove, kindsAfter, trackAfter, pinned}
-use Rattle.qlim.specs.Rounds.{Study, GoodStudy, Done, done, infinity, settleOf, problemIn, movesIn, given, roundOf, lastRound, earlierRound, roundsFrom, fresh, qlimOf}
+use Rattle.qlim.specs.Rounds.{Study, GoodStudy, Done, done, infinity, settleOf, problemIn, movesIn, doneWith, roundOf, lastRound, earlierRound, roundsFrom, fresh, qlimOf}
 
 -- a round, once Newton's end e and the workspace v that it leaves are known
 module _ (s : Study) (kinds : List BusKind) (t : Track) (e : Ended) (v : List Float) (after : Done) where
-  round-short : le tolerance (e .residual) ≡ true → roundOf s kinds t (run e v) after ≡ given s kinds t (run e v) (e .residual)
+  round-short : le tolerance (e .residual) ≡ true → roundOf s kinds t (run e v) after ≡ doneWith s kinds t (run e v) (e .residual)
   unfolding roundOf
   round-short h = rw h
 
   module _ (h : le tolerance (e .residual) ≡ false) (ms : List Move) (em : ms ≡ movesIn s kinds t e) where
-    round-still : anyMove (s .n) ms ≡ false → roundOf s kinds t (run e v) after ≡ given s kinds t (run e v) (e .residual)
+    round-still : anyMove (s .n) ms ≡ false → roundOf s kinds t (run e v) after ≡ doneWith s kinds t (run e v) (e .residual)
     unfolding roundOf
     round-still ha = rw (h, ← em, ha)
 
@@ -47,7 +47,7 @@ module _ (s : Study) (kinds : List BusKind) (t : Track) (p : Point) (w : List Fl
 
   -- what follows the moves, where k rounds more may be run
   abbrev follows : ℕ → Done
-  follows zero = given s kinds t (run e v) infinity
+  follows zero = doneWith s kinds t (run e v) infinity
   follows (suc k) =
       let next = kindsAfter (s .n) kinds (movesIn s kinds t e) in
       roundsFrom k s next (trackAfter (s .n) t (s .limits) (s .qg) (movesIn s kinds t e)) (pinned (s .n) next (s .hold) (e .point)) v

@@ -15,7 +15,7 @@ use Rattle.case_text.specs.declared.Reading.the-variants as Reading
 use Rattle.case_text.specs.Text.{textOf}
 use Rattle.case_text.specs.Answer as Reader
 use Rattle.pf_ac.specs.WithStart.Withheld.{Alike}
-use Rattle.tables.specs.Tables.{Outs, placesIn, roomy}
+use Rattle.tables.specs.Tables.{Outs, lengthsIn, roomy}
 use Rattle.answer.specs.TextAnswer.{textAnswer, unread, afterReading, textAnswerOf}
 use Rattle.answer.specs.TextAnswer.Laws.{textGives, answer-never-7-9, answer-withheld}
 use Rattle.lines.specs.Lines.{Wrote}
@@ -34,7 +34,7 @@ printed-reported s w n r o v h p = record { written = rw (← h) p; left = ap (�
 
 -- ---- refusals 7 and 9 are not met by a text
 
-roomy-blanks : (w : List Float) → leb 6144 (length w) ≡ true → (n : ℕ) → n ≤ 32 → roomy n (placesIn blanks) (length w) ≡ true
+roomy-blanks : (w : List Float) → leb 6144 (length w) ≡ true → (n : ℕ) → n ≤ 32 → roomy n (lengthsIn blanks) (length w) ≡ true
 unfolding roomy both
 roomy-blanks w h n few = rw (le-leb n 32 few, h)
 
@@ -56,5 +56,5 @@ report-one r before after₁ after₂ end₁ end₂ space₁ space₂ p q =
 
 -- tables that differ only in 01's withheld columns print the same bytes and leave the same workspace
 pub printed-withheld : (c : Contents) (read read′ : Network) (w : List Float) → Alike (c .start) (firstRows (c .rows) read) (firstRows (c .rows) read′)
-    → reported (afterReading (Reader.outcome (given c) read) blanks w) ≡ reported (afterReading (Reader.outcome (given c) read′) blanks w)
+    → reported (afterReading (Reader.readResult (given c) read) blanks w) ≡ reported (afterReading (Reader.readResult (given c) read′) blanks w)
 printed-withheld c read read′ w a = ap reported (answer-withheld c read read′ blanks w a)

@@ -11,7 +11,7 @@ use lib.Seq.{slice, length-slice}
 use Rattle.fields.specs.Cut.{empty, only, upto, pieces, Found}
 use Rattle.real.specs.Tests.{true-false, and-left, below-or}
 use Rattle.fields.specs.Cut.Laws.{only-is, found, slice-some, slice-none}
-use Rattle.rows.specs.Asked.{letterOf, wantOf, goodOf}
+use Rattle.rows.specs.Asked.{sectionLetter, wantOf, goodOf}
 use Rattle.rows.specs.Line.{allSome, spacedOf, formOf, fieldsOf, tail}
 use Rattle.rows.specs.declared.Section.{Section}
 use Rattle.rows.specs.declared.Section.the-variants as Section
@@ -57,7 +57,7 @@ module _ (s : List ℕ) (a e : ℕ) (z : Section) (h : a ≤ e) (k : e ≤ lengt
         q,
         (let w : formOf z (slice a p s ∷ pieces 32 (slice (p + 1) e s)) ≡ true = rw (f .more q) at g in
             let i : p ≤ length s = omega (arith, f .high) in
-            omega (arith, f .low, ap length (only-is (letterOf z) (slice a p s) (and-left _ _ w)), length-slice a p s i)),
+            omega (arith, f .low, ap length (only-is (sectionLetter z) (slice a p s) (and-left _ _ w)), length-slice a p s i)),
       ))
       (λ q. absurd (true-false (rw (f .last q) at g) (no-fields z (slice a p s))))
       (below-or p e)

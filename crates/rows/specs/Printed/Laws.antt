@@ -13,11 +13,11 @@ use borrow.Author.Tests.{eqb-true, leb-false}
 use Rattle.fields.specs.Cut.{empty, only, pieces, onto}
 use Rattle.fields.specs.Cut.Laws.{empty-is, only-is}
 use Rattle.real.specs.Tests.{decided, true-false, no-case, and-left, and-right}
-use Rattle.rows.specs.Asked.{letterOf, countOf, sizeOf, wantOf, goodOf}
+use Rattle.rows.specs.Asked.{sectionLetter, fieldCount, sizeOf, wantOf, goodOf}
 use Rattle.rows.specs.Line.{allSome, formOf, fieldsOf, lineOf, tail}
 use Rattle.rows.specs.Rows.{after, sectionOf, checkOf, ended, rowsOf}
 use Rattle.rows.specs.Rows.Laws.{pieces-some}
-use Rattle.rows.specs.Printed.{spread, fieldsIn, tableOf, printed}
+use Rattle.rows.specs.Printed.{spread, fieldsIn, fieldTable, printed}
 use Rattle.rows.specs.declared.Section.{Section}
 use Rattle.rows.specs.declared.Check.{Check}
 use Rattle.rows.specs.declared.Check.the-variants as Check
@@ -49,12 +49,12 @@ join-pieces x (b ∷ r) =
 
 -- ---- a line
 
-formed : (z : Section) (ps : List (List ℕ)) → formOf z ps ≡ true → join 32 ps ≡ letterOf z ∷ spread 32 (tail ps)
+formed : (z : Section) (ps : List (List ℕ)) → formOf z ps ≡ true → join 32 ps ≡ sectionLetter z ∷ spread 32 (tail ps)
 formed z [] h = absurd (true-false h refl)
-formed z (f ∷ fs) h = rw (only-is (letterOf z) f (and-left _ _ h))
+formed z (f ∷ fs) h = rw (only-is (sectionLetter z) f (and-left _ _ h))
 
 -- a line whose form is good is its letter and its fields, one space before each
-pub line-printed : (z : Section) (l : List ℕ) → formOf z (pieces 32 l) ≡ true → l ≡ letterOf z ∷ spread 32 (fieldsIn l)
+pub line-printed : (z : Section) (l : List ℕ) → formOf z (pieces 32 l) ≡ true → l ≡ sectionLetter z ∷ spread 32 (fieldsIn l)
 line-printed z l h = sym (join-pieces 32 l) ∙ formed z (pieces 32 l) h
 
 -- ---- what a good answer says of the tests on the way
@@ -94,12 +94,12 @@ lines-printed z r at (l ∷ m ∷ ms) n g h =
     ⊎-elim (λ q. never (Check.Rows at) n (rw q at k) refl)
     (λ q. let v = rw q at k in
     ap (λ (x : List ℕ). x ++ (10 ∷ join 10 (m ∷ ms))) (line-printed z l (line-form z at l _ n v))
-    ∙ ap (λ (x : List ℕ). letterOf z ∷ (spread 32 (fieldsIn l) ++ (10 ∷ x)))
+    ∙ ap (λ (x : List ℕ). sectionLetter z ∷ (spread 32 (fieldsIn l) ++ (10 ∷ x)))
     (lines-printed z (r + 1) (at + length l + 1) (m ∷ ms) n refl (after-rest (lineOf z at l) _ n v)))
     (decided (leb (sizeOf z) r))
 
 -- an accepted section is its rows, printed
-pub section-printed : (z : Section) (at : ℕ) (l : List ℕ) (n : ℕ) → checkOf z at l ≡ Check.Good n → l ≡ printed z (tableOf l)
+pub section-printed : (z : Section) (at : ℕ) (l : List ℕ) (n : ℕ) → checkOf z at l ≡ Check.Good n → l ≡ printed z (fieldTable l)
 section-printed z at l n h = sym (join-pieces 10 l) ∙ lines-printed z 0 at (pieces 10 l) n (pieces-some 10 l) h
 
 good-is : (m n : ℕ) → Check.Good m ≡ Check.Good n → n ≡ m
@@ -139,7 +139,7 @@ section-most z at l n h = lines-most z 0 at (pieces 10 l) n (pieces-some 10 l) (
 
 -- a row has its section's fields, each of them what is asked
 pub record Sound (z : Section) (fs : List (List ℕ)) : Type 0 where
-  pub count : length fs ≡ countOf z
+  pub count : length fs ≡ fieldCount z
   pub good : (j : ℕ) → j < length fs → goodOf (wantOf z j) (getD fs j []) ≡ true
 
 fields-good : (z : Section) (j at n : ℕ) (fs : List (List ℕ)) → fieldsOf z j at fs ≡ Check.Good n → (i : ℕ) → i < length fs
@@ -154,9 +154,9 @@ fields-good z j at n (f ∷ fs) h (suc i) k =
     (λ q. never (Check.Field at) n (rw q at h) refl)
     (decided (goodOf (wantOf z j) f))
 
-counted : (z : Section) (ps : List (List ℕ)) → formOf z ps ≡ true → length (tail ps) ≡ countOf z
+counted : (z : Section) (ps : List (List ℕ)) → formOf z ps ≡ true → length (tail ps) ≡ fieldCount z
 counted z [] h = absurd (true-false h refl)
-counted z (f ∷ fs) h = rw (zero-add (length fs)) at (eqb-true (0 + length fs) (countOf z) (and-right (allSome fs) _ (and-right (only (letterOf z) f) _ h)))
+counted z (f ∷ fs) h = rw (zero-add (length fs)) at (eqb-true (0 + length fs) (fieldCount z) (and-right (allSome fs) _ (and-right (only (sectionLetter z) f) _ h)))
 
 after-first : (v w : Check) (n : ℕ) → after v w ≡ Check.Good n → (m : ℕ) × (v ≡ Check.Good m)
 after-first (Check.Good k) w n h = (k, refl)
@@ -192,5 +192,5 @@ lines-sound z r at (l ∷ m ∷ ms) n h (suc k) i =
     (decided (leb (sizeOf z) r))
 
 -- row k of an accepted section is sound
-pub section-sound : (z : Section) (at : ℕ) (l : List ℕ) (n : ℕ) → checkOf z at l ≡ Check.Good n → (k : ℕ) → k < length (rowsOf l) → Sound z (getD (tableOf l) k [])
+pub section-sound : (z : Section) (at : ℕ) (l : List ℕ) (n : ℕ) → checkOf z at l ≡ Check.Good n → (k : ℕ) → k < length (rowsOf l) → Sound z (getD (fieldTable l) k [])
 section-sound z at l n h k i = lines-sound z 0 at (pieces 10 l) n h k i

@@ -9,12 +9,13 @@ use native.Mathlib.Omega.{arith}
 use lib.Dec.{eqb}
 use lib.ListN.{length, getD, set, replicate}
 use lib.Ieee.{Float}
-use Rattle.layout.specs.Table.{table, Below}
+use Rattle.network.specs.Below.{Below}
+use Rattle.layout.specs.Table.{table}
 use Rattle.layout.specs.Table.Laws.{table-at, table-set, stores-ext, table-same}
-use Rattle.islands.specs.Islands.{labelOf, labelsOf, tableOf}
+use Rattle.islands.specs.Islands.{labelOf, labelsOf, labelTable}
 use Rattle.islands.specs.Islands.Laws.{labels-le}
 use Rattle.islands.specs.Islands.Laws as Islands
-use Rattle.starts.specs.References.{noSlack, laterRow, slackOf, slackFor, referencesOf, Slacks}
+use Rattle.starts.specs.References.{noSlack, laterRow, slackOf, slackFor, referencesOf, SlacksBelow}
 
 -- ---- row by row, for any value of a row
 
@@ -42,7 +43,7 @@ rows-ext (suc k) slacks f g x z l h = rw (rows-ext k slacks f g x z l (λ i p. h
 
 -- ---- bus by bus, with the labels that dense_islands gives
 
-module _ (n : ℕ) (slacks : List ℕ) (from to labels : List ℕ) (few : n ≤ 32) (below : Below n slacks) (el : labels ≡ tableOf n (labelsOf n from to)) where
+module _ (n : ℕ) (slacks : List ℕ) (from to labels : List ℕ) (few : n ≤ 32) (below : Below n slacks) (el : labels ≡ labelTable n (labelsOf n from to)) where
   labelled : (b : ℕ) → b < n → getD labels b 0 ≡ labelOf from to b
   labelled b h = rw el (Islands.table-at n from to b h)
 
@@ -69,7 +70,7 @@ one-of (suc k) n slacks label l h p = go (eqb l (label (getD slacks k 0))) p (on
     go false q r = r q
 
 pub references-slacks : (n : ℕ) (slacks : List ℕ) (angles : List Float) (from to : List ℕ) → n ≤ 32 → Below n slacks
-    → Slacks n (referencesOf n slacks angles from to)
+    → SlacksBelow n (referencesOf n slacks angles from to)
 unfolding referencesOf
 references-slacks n slacks angles from to few below b h =
     rw (table-at n noSlack (slackFor slacks from to) b 0 h few) (one-of (length slacks) n slacks (labelOf from to) (labelOf from to b) below)

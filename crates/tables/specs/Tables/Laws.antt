@@ -31,11 +31,11 @@ use Rattle.tables.specs.declared.Checked.{Checked}
 use Rattle.tables.specs.declared.Checked.the-variants as Checked
 use Rattle.tables.specs.declared.Outcome.{Outcome}
 use Rattle.tables.specs.declared.Outcome.the-variants.{Solved, Counts, Room, Bus, NotConverged}
-use Rattle.tables.specs.Tables.{paperOf, Answer, Outs, outs, Places, placesIn, OnePerBus, roomy, checkedOf, withAnswer, written, writeOf, zeros, ran, runOf, answer, afterCheck, solveOf}
+use Rattle.tables.specs.Tables.{paperOf, Answer, Outs, outs, Lengths, lengthsIn, OnePerBus, roomy, checkedOf, withAnswer, written, writeOf, zeros, ran, runOf, answer, afterCheck, solveOf}
 
 -- ---- the checks
 
-module _ (t : Network) (m : Places) (space : ℕ) where
+module _ (t : Network) (m : Lengths) (space : ℕ) where
   pub check-counts : counted t ≡ false → Checked.Counts ≡ checkedOf t m space
   unfolding checkedOf
   check-counts h = rw h
@@ -66,7 +66,7 @@ module _ (t : Network) (m : Places) (space : ℕ) where
       go true false c p q r = let k : Checked.Ready ≡ Checked.Room = rw (p, q) at e in no-case cc
       go false b c p q r = let k : Checked.Ready ≡ Checked.Counts = rw p at e in no-case cc
 
-pub one-per-bus : (n : ℕ) (m : Places) (space : ℕ) → roomy n m space ≡ true → OnePerBus n m × (6144 ≤ space)
+pub one-per-bus : (n : ℕ) (m : Lengths) (space : ℕ) → roomy n m space ≡ true → OnePerBus n m × (6144 ≤ space)
 unfolding roomy
 one-per-bus n m space h =
     let h₁ = both-r _ _ h in
@@ -110,7 +110,7 @@ answer-written n y point kept o found ef letters el vm va p q kinds em ea ep eq 
 
 -- ---- the call
 
-module _ (start : AcStart) (t : Network) (o : Outs) (w : List Float) (c : Checked) (h : c ≡ checkedOf t (placesIn o) (length w)) where
+module _ (start : AcStart) (t : Network) (o : Outs) (w : List Float) (c : Checked) (h : c ≡ checkedOf t (lengthsIn o) (length w)) where
   pub solve-refused : (r : Outcome) → answer (paperOf r) o w ≡ afterCheck start t o w c → answer (paperOf r) o w ≡ solveOf start t o w
   unfolding solveOf
   solve-refused r e = rw (← h) e

@@ -14,7 +14,7 @@ use Rattle.starts.specs.declared.AcStart.{AcStart}
 use Rattle.pf_ac.specs.declared.AcPf.the-variants as AcPf
 use Rattle.pf_ac.specs.Search.{Searched}
 use Rattle.pf_ac.specs.WithStart.Withheld.{Alike, withheld}
-use Rattle.tables.specs.Tables.{ok, Outs, placesIn, roomy, checkedOf, withAnswer, Ran, ran, ranOf, runOf, answer, afterRun, afterCheck, solveOf}
+use Rattle.tables.specs.Tables.{ok, Outs, lengthsIn, roomy, checkedOf, withAnswer, Ran, ran, ranOf, runOf, answer, afterRun, afterCheck, solveOf}
 use Rattle.tables.specs.Tables.Laws.{met}
 use Rattle.tables.specs.declared.Checked.{Checked}
 use Rattle.tables.specs.declared.Checked.the-variants as Checked
@@ -40,7 +40,7 @@ module _ (start : AcStart) (t u : Network) (a : Alike start t u) (o : Outs) (w :
   unfolding numbered
   numbered-same = λ i. numberedBy (buses-same i) (a .slacks i .bus) (a .generators .bus i) (a .branches i .from) (a .branches i .to) (a .triplets i .row) (a .triplets i .col)
 
-  checked-same : checkedOf t (placesIn o) (length w) ≡ checkedOf u (placesIn o) (length w)
+  checked-same : checkedOf t (lengthsIn o) (length w) ≡ checkedOf u (lengthsIn o) (length w)
   unfolding checkedOf
   checked-same = rw (counted-same, buses-same, numbered-same)
 
@@ -55,10 +55,10 @@ module _ (start : AcStart) (t u : Network) (a : Alike start t u) (o : Outs) (w :
 
   pub solve-withheld : solveOf start t o w ≡ solveOf start u o w
   unfolding solveOf
-  solve-withheld = go (checkedOf t (placesIn o) (length w)) refl ∙ ap (afterCheck start u o w) checked-same
+  solve-withheld = go (checkedOf t (lengthsIn o) (length w)) refl ∙ ap (afterCheck start u o w) checked-same
     where
-      go : (c : Checked) → c ≡ checkedOf t (placesIn o) (length w) → afterCheck start t o w c ≡ afterCheck start u o w c
-      go Checked.Ready e = after-same (runOf start t w) ∙ ap (afterRun u o) (run-same (buses-few t (met t (placesIn o) (length w) e .is-counted)))
+      go : (c : Checked) → c ≡ checkedOf t (lengthsIn o) (length w) → afterCheck start t o w c ≡ afterCheck start u o w c
+      go Checked.Ready e = after-same (runOf start t w) ∙ ap (afterRun u o) (run-same (buses-few t (met t (lengthsIn o) (length w) e .is-counted)))
       go Checked.Counts e = refl
       go Checked.Room e = refl
       go Checked.Bus e = refl

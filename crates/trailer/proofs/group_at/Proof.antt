@@ -37,7 +37,7 @@ use denote.Triple.Table.{entered, cited}
 use denote.Triple.Walked.{says, needs, Stays, stay-none, stay-none-slice, walkOf, goes-none, goes-none-slice, Walks, ends-at, walked, walk-meets}
 use denote.Exit.{yes}
 use denote.Triple.Clauses.{ensured, lasts}
-use Rattle.trailer.specs.Trailer.{groupOf}
+use Rattle.trailer.specs.Trailer.{groupAt}
 use Rattle.trailer.specs.declared.Reader.{Reader}
 use Rattle.fields.specs.declared.Digits.{Digits}
 use Rattle.trailer.proofs.Reader as T
@@ -78,7 +78,7 @@ module _ {M : Type 1} (𝓤 : URA M) (H : Heap 𝓤) (A : Atoms 𝓤) (W : Given
   v = sliceVal (s .ptr) (length (s .now))
 
   abbrev found : Digits
-  found = groupOf (now s) n
+  found = groupAt (now s) n
 
   -- the struct's type as a local of a body has it
   abbrev αᵉ : NamedLft
@@ -117,8 +117,8 @@ module _ {M : Type 1} (𝓤 : URA M) (H : Heap 𝓤) (A : Atoms 𝓤) (W : Given
   fits : (r : Reader) → (r .text ≡ s) × (r .at ≡ n) → n + 6 ≤ length (now s) → r .at + 6 ≤ length (now (r .text))
   fits r e within = rw (e .0, e .1) within
 
-  next-said : (r : Reader) (t : Digits) → ent 𝓤 (ensured 𝓤 H A next-group.ended (next-group.clauses 𝓤 H A mem run) (κ, tt) (r, tt) tt t) (fact 𝓤 (t ≡ groupOf (now (r .text)) (r .at)))
-  next-said r t = exE 𝓤 _ (λ ws. snd∗ 𝓤 (sem 𝓤 H A (lasts next-group.ended (κ, tt) (r, tt) ws)) (fact 𝓤 (t ≡ groupOf (now (r .text)) (r .at))))
+  next-said : (r : Reader) (t : Digits) → ent 𝓤 (ensured 𝓤 H A next-group.ended (next-group.clauses 𝓤 H A mem run) (κ, tt) (r, tt) tt t) (fact 𝓤 (t ≡ groupAt (now (r .text)) (r .at)))
+  next-said r t = exE 𝓤 _ (λ ws. snd∗ 𝓤 (sem 𝓤 H A (lasts next-group.ended (κ, tt) (r, tt) ws)) (fact 𝓤 (t ≡ groupAt (now (r .text)) (r .at))))
 
   exits : (t : Digits) (u : Val) → t ≡ found → ent 𝓤 (⋆ 𝓤 H A (‵ (S.the-row .own t (u ∷ [])) ∷ (‵ (flft κ q) ⊛ ‵ ftrue) ∷ ‵ Own ∷ [])) (Post u)
   exits t u e =
@@ -141,12 +141,12 @@ module _ {M : Type 1} (𝓤 : URA M) (H : Heap 𝓤) (A : Atoms 𝓤) (W : Given
         use2 W (raw (Next 𝓤 H A mem run .pre (to-next r u))) (goes-next r u (fits r e within)) $
         calls-at ! fm (Next 𝓤 H A mem run) known-next (to-next r u) (and-then ! (load ! (from ! (stop !)) (look ! 2 refl)) (no-more !)) (λ u′.
         use1 W (later (some (λ (t : Digits). ((‵ (flft κ q) ⊛ ‵ ftrue) ⊛ ‵ (S.the-row .own t (u′ ∷ []))) ⊛ raw (ensured 𝓤 H A next-group.ended (next-group.clauses 𝓤 H A mem run) (κ, tt) (r, tt) tt t)))) (id⊢ 𝓤 _) $ await ! tt $ pick ! (λ t.
-        split ! $ move ! (1 ∷ []) $ use1 W (raw (fact 𝓤 (t ≡ groupOf (now (r .text)) (r .at)))) (next-said r t) $ heard ! (t ≡ groupOf (now (r .text)) (r .at)) (λ e′. split ! $ move ! (1 ∷ []) $
+        split ! $ move ! (1 ∷ []) $ use1 W (raw (fact 𝓤 (t ≡ groupAt (now (r .text)) (r .at)))) (next-said r t) $ heard ! (t ≡ groupAt (now (r .text)) (r .at)) (λ e′. split ! $ move ! (1 ∷ []) $
         -- [the result; the token; what s owns; _3; …; _2; …; _1; …; room for _0; …]
         peeks ! S.the-row (Is S.the-row) (shows 𝓤 H A S.the-row) t (u′ ∷ []) (λ is′.
         land ! (from ! (stop !)) (init ! 9 refl (EL.lawful S.the-type S′.the-laws 𝓤 H A W tt .typed t _ is′ .0)) $
         returns ! (look ! 9 refl) $ forget ! 3 refl $ forget ! 5 refl $ forget ! 7 refl $ forget ! 9 refl $ move ! (9 ∷ 10 ∷ []) $ free1 ! $ move ! (7 ∷ 8 ∷ []) $ free1 ! $ move ! (5 ∷ 6 ∷ []) $ free1 ! $ move ! (3 ∷ 4 ∷ []) $ free1 ! $ free0 ! $
-        by ! (exits t u′ (e′ ∙ (ap (λ (x : RefT (List ℕ)). groupOf (now x) (r .at)) (e .0) ∙ ap (groupOf (now s)) (e .1))))))))))))))))
+        by ! (exits t u′ (e′ ∙ (ap (λ (x : RefT (List ℕ)). groupAt (now x) (r .at)) (e .0) ∙ ap (groupAt (now s)) (e .1))))))))))))))))
 
 module _ {M : Type 1} (𝓤 : URA M) (H : Heap 𝓤) (A : Atoms 𝓤) (W : Given 𝓤 H A) (mem : Memory → SProp 𝓤) (run : Routine → Fun 𝓤) where
   group-at-walks : (C : Calls 𝓤 H) (Λ : Loops 𝓤 H) → FmC 𝓤 H (W .laws) C → Triple 𝓤 (C #trailer·placed) (Placed 𝓤 H A mem run) → Triple 𝓤 (C #trailer·next-group) (Next 𝓤 H A mem run)

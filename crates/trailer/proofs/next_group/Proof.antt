@@ -42,7 +42,7 @@ use denote.Triple.Table.{entered, cited}
 use denote.Triple.Walked.{says, needs, Stays, stay-none, walkOf, goes-none, Walks, ends-at, walked, walk-meets}
 use denote.Exit.{yes}
 use denote.Triple.Clauses.{ensured, lasts}
-use Rattle.trailer.specs.Trailer.{groupOf}
+use Rattle.trailer.specs.Trailer.{groupAt}
 use Rattle.trailer.specs.declared.Reader.{Reader}
 use Rattle.fields.specs.declared.Digits.{Digits}
 use Rattle.trailer.proofs.Reader as T
@@ -79,7 +79,7 @@ module _ {M : Type 1} (𝓤 : URA M) (H : Heap 𝓤) (A : Atoms 𝓤) (W : Given
   v = sliceVal (d .text .ptr) (length (d .text .now))
 
   abbrev found : Digits
-  found = groupOf (now (d .text)) (d .at)
+  found = groupAt (now (d .text)) (d .at)
 
   abbrev Post : Val → SProp 𝓤
   Post = walkOf 𝓤 H A next-group.ended stayed (next-group.clauses 𝓤 H A mem run) .post (((κ, tt), (q, tt), tt, (d, tt), (mach ∷ [], tt)), tt)

@@ -16,7 +16,7 @@ use Rattle.fields.specs.declared.Digits.{Digits}
 use Rattle.fields.specs.declared.Digits.the-variants as Digits
 use Rattle.rows.specs.declared.Section.{Section}
 use Rattle.rows.specs.declared.Section.the-variants as Section
-use Rattle.trailer.specs.Trailer.{groups, groupOf, startAt, numberOf, risingOf, flagged, trailerBy, trailerOf, indexOf, startOf, endOf}
+use Rattle.trailer.specs.Trailer.{groups, groupAt, startAt, numberOf, risingOf, flagged, trailerBy, trailerOf, indexOf, sectionStart, sectionEnd}
 
 -- ---- the loop over the groups
 
@@ -29,15 +29,15 @@ module _ (k : ℕ) (s : List ℕ) (at low end : ℕ) where
     one-more : k ≡ suc (k - 1)
     one-more = omega arith
 
-    pub rising-wrong : groupOf s at ≡ Digits.Other → risingOf k s at low end ≡ false
+    pub rising-wrong : groupAt s at ≡ Digits.Other → risingOf k s at low end ≡ false
     unfolding risingOf
     rising-wrong g = rw (one-more, g)
 
-    pub rising-falls : (m : ℕ) → groupOf s at ≡ Digits.Number m → m < low → risingOf k s at low end ≡ false
+    pub rising-falls : (m : ℕ) → groupAt s at ≡ Digits.Number m → m < low → risingOf k s at low end ≡ false
     unfolding risingOf
     rising-falls m g l = rw (one-more, g, lt-leb low m l)
 
-    pub rising-on : (m : ℕ) → groupOf s at ≡ Digits.Number m → low ≤ m → risingOf k s at low end ≡ risingOf (k - 1) s (at + 6) m end
+    pub rising-on : (m : ℕ) → groupAt s at ≡ Digits.Number m → low ≤ m → risingOf k s at low end ≡ risingOf (k - 1) s (at + 6) m end
     unfolding risingOf
     rising-on m g l = let q : suc (k - 1) - 1 ≡ k - 1 = omega arith in rw (one-more, g, le-leb low m l, q)
 
@@ -45,7 +45,7 @@ module _ (k : ℕ) (s : List ℕ) (at low end : ℕ) where
 
 -- a group, and that its number is not below the one before
 pub record Group (s : List ℕ) (at low : ℕ) : Type 0 where
-  pub number : isNumber (groupOf s at) ≡ true
+  pub number : isNumber (groupAt s at) ≡ true
   pub rises : low ≤ startAt s at
 
 module _ (k : ℕ) (s : List ℕ) (at low end : ℕ) (h : risingOf (suc k) s at low end ≡ true) where
@@ -53,12 +53,12 @@ module _ (k : ℕ) (s : List ℕ) (at low end : ℕ) (h : risingOf (suc k) s at 
   unfolding risingOf
   first-group = record {
     number = and-left _ _ h;
-    rises = leb-true low (startAt s at) (and-left _ _ (and-right (isNumber (groupOf s at)) _ h));
+    rises = leb-true low (startAt s at) (and-left _ _ (and-right (isNumber (groupAt s at)) _ h));
   }
 
   pub groups-after : (to : ℕ) → at + 6 ≡ to → risingOf k s to (startAt s at) end ≡ true
   unfolding risingOf
-  groups-after to q = rw (← q) (and-right (leb low (startAt s at)) _ (and-right (isNumber (groupOf s at)) _ h))
+  groups-after to q = rw (← q) (and-right (leb low (startAt s at)) _ (and-right (isNumber (groupAt s at)) _ h))
 
 -- behind group j of k that rise, counted from 0, the others rise from its number on
 groups-behind : (k j : ℕ) (s : List ℕ) (at low end : ℕ) → risingOf k s at low end ≡ true → j < k
@@ -140,7 +140,7 @@ pub record Within (a e n : ℕ) : Type 0 where
   pub ordered : a ≤ e
   pub inside : e ≤ n
 
-pub within : (s : List ℕ) (t : ℕ) → trailerOf s t ≡ true → (z : Section) → Within (startOf z s t) (endOf z s t) t
+pub within : (s : List ℕ) (t : ℕ) → trailerOf s t ≡ true → (z : Section) → Within (sectionStart z s t) (sectionEnd z s t) t
 within s t h z =
     let w = rising groups s t (good-trailer s t h) in
     record { ordered = w .never-fall (indexOf z) (index-below z); inside = w .inside (indexOf z + 1) (index-below z) }
