@@ -8,20 +8,20 @@ use Rattle.text_vectors.proofs.main.Statement.{statement}
 use Rattle.text_vectors.proofs.main.Tie as tie
 
 abbrev Inv-loop : tie.InvT-loop
-Inv-loop head₀ text₀ s₀ done₀ differing₀ count t11 head text s done differing =
-    (length head ≡ 4) × (length text ≡ 65536) × (length s ≡ 600000) × (done ≤ count) × (differing ≤ done)
+Inv-loop s₀ head₀ text₀ done₀ differing₀ count t10 s head text done differing =
+    (length head ≡ 4) × (length text ≡ 65536) × (done ≤ count) × (differing ≤ done)
 
 abbrev μ-loop : tie.MeasureT-loop
-μ-loop head₀ text₀ s₀ done₀ differing₀ count t11 head text s done differing = count - done
+μ-loop s₀ head₀ text₀ done₀ differing₀ count t10 s head text done differing = count - done
 
 loop-holds : tie.Need-loop-holds Inv-loop μ-loop
-loop-holds c = (omega arith, omega arith, omega arith, omega arith, omega arith)
+loop-holds c = (omega arith, omega arith, omega arith, omega arith)
 
 loop-again : tie.Need-loop-again Inv-loop μ-loop
 loop-again c =
-    let next = c .before .before .before .before .before .before .before .next in
-    let s = c .before .before .before .before .before .before .before .before .before .before .before .before in
-    (next .kept .0 ∙ s .loop .inv .0, next .kept .1 .0 ∙ s .loop .inv .1, next .kept .1 .1 .0 ∙ s .loop .inv .2, omega arith, omega arith)
+    let next = c .before .before .before .before .before in
+    let inv = next .before .before .before .before .before .loop .inv in
+    (next .next .kept .0 ∙ inv .0, next .next .kept .1 .0 ∙ inv .1, omega arith, omega arith)
 
 pub main-spec : {M : Type 1} → statement M
 main-spec =
@@ -30,8 +30,6 @@ main-spec =
     Inv-loop
     μ-loop
     (λ c κs. search needs)
-    (λ c κs. search needs)
-    (λ c. search needs)
     (λ c. search needs)
     (λ c. search needs)
     (λ c κs. omega arith)

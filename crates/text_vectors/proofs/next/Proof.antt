@@ -22,12 +22,12 @@ slice-aggregate-agrees c = sym (length-take-le _ _ (omega arith))
 
 returns-4 : tie.Need-returns-4
 returns-4 c =
-    let pair = c .before .before .before .before .before .before .before .before .before .before .before .before .before .before .before .before .pair .ensures .0 in
+    let pair = c .before .before .before .before .before .before .before .before .before .before .before .before .before .before .pair .ensures .0 in
     found-agreed (rw pair at (c .before .agrees .ensures .0 (c .if4 .taken)))
 
 returns-5 : tie.Need-returns-5
 returns-5 c =
-    let pair = c .before .before .before .before .before .before .before .before .before .before .before .before .before .before .before .before .pair .ensures .0 in
+    let pair = c .before .before .before .before .before .before .before .before .before .before .before .before .before .before .pair .ensures .0 in
     found-differed (omega arith) (λ a. true-false ((rw pair at (c .before .agrees .ensures .1)) a) (c .if4 .left))
 
 pub next-spec : {M : Type 1} → statement M
@@ -46,16 +46,13 @@ next-spec =
     (λ c κs. search needs)
     (λ c. search needs)
     (λ c. search needs)
-    (λ c. search needs)
     returns-3
     (λ c. search needs)
     slice-aggregate-agrees
     (λ c κs. search needs)
     (λ c. search needs)
     (λ c. search needs)
-    (λ c. search needs)
     returns-4
-    (λ c. search needs)
     (λ c. search needs)
     (λ c. search needs)
     returns-5)
