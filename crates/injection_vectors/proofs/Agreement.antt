@@ -11,8 +11,10 @@ use Rattle.real.specs.Each.{each}
 use Rattle.real.specs.Each.Laws.{length-each, is-each}
 use Rattle.real.specs.Literals.{nought}
 use Rattle.vectors.specs.Words.{Tells}
-use Rattle.layout.specs.Table.{stores, Below, allBelow}
-use Rattle.layout.specs.Table.Laws.{stores-length, stores-at, all-below, below-all}
+use Rattle.network.specs.Below.{Below, allBelow}
+use Rattle.network.specs.Below.Laws.{all-below, below-all}
+use Rattle.layout.specs.Table.{stores}
+use Rattle.layout.specs.Table.Laws.{stores-length, stores-at}
 use Rattle.injections.specs.declared.Column.{Column}
 use Rattle.injections.specs.declared.Injections.{Injections}
 use Rattle.injections.specs.Injections.{ybus, Good}

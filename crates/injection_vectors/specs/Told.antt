@@ -11,7 +11,8 @@ use Rattle.real.specs.Each.{each}
 use Rattle.real.specs.Literals.{nought}
 use Rattle.vectors.specs.Words.{wordOf, doubleAt}
 use Rattle.layout.specs.declared.AcPfLayout.{AcPfLayout}
-use Rattle.layout.specs.Table.{table, Below}
+use Rattle.network.specs.Below.{Below}
+use Rattle.layout.specs.Table.{table}
 use Rattle.layout.specs.Layout.{none}
 use Rattle.injections.specs.declared.Column.{Column}
 use Rattle.injections.specs.declared.Injections.{Injections}

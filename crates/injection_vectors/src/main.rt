@@ -220,10 +220,10 @@ fn agrees(
     requires { ⌜ Fits (now s) n m dim × (ybus (now row) (now col) (now re) (now im) ≡ ybusTold (now s) m) ⌝ }
     ensures { λ r. ⌜ Tells r (Agrees (now (s .entry)) n m dim) ⌝ }
 {
-    if !layout::below(n, row) {
+    if !network::below(n, row) {
         return false;
     }
-    if !layout::below(n, col) {
+    if !network::below(n, col) {
         return false;
     }
     if !injections_agree(s, n, m, dim, row, col, re, im) {

@@ -4,7 +4,7 @@ use borrow.Author.Needs.{needs}
 use borrow.Author.Tests.{not-false}
 use Rattle.vectors.specs.Words.{Tells}
 use Rattle.vectors.specs.Words.Laws.{not-told, last-told}
-use Rattle.layout.specs.Table.{Below}
+use Rattle.network.specs.Below.{Below}
 use Rattle.injections.specs.Injections.{Ybus, Good}
 use Rattle.injection_vectors.specs.Told.{ybusTold}
 use Rattle.injection_vectors.proofs.Agreement.{below-told, good}
