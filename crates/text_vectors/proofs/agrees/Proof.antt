@@ -3,11 +3,12 @@ use mathlib.Core.Path.{sym, _∙_}
 use native.Mathlib.Omega.{arith}
 use borrow.Author.Needs.{needs}
 use Rattle.vectors.specs.Words.Laws.{_and_, last-told, same-told}
+use Rattle.vectors.specs.Sizes.{lent}
 use Rattle.network.specs.Network.{busesOf, slacksOf, generatorsOf, branchesOf, tripletsOf, networkOf}
 use Rattle.case_text.specs.Answer.{outcome}
 use Rattle.text_vectors.specs.Told.{numberMark, realMark}
 use Rattle.text_vectors.proofs.Papers.{outcome-parts}
-use Rattle.text_vectors.proofs.Telling.{lent, given-back}
+use Rattle.text_vectors.proofs.Telling.{given-back}
 use Rattle.text_vectors.proofs.agrees.Statement.{statement}
 use Rattle.text_vectors.proofs.agrees.Tie as tie
 
