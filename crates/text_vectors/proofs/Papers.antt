@@ -2,6 +2,7 @@
 use mathlib.Core.Path.{_≡_, sym, ap, _∙_}
 use mathlib.Core.Bool.{Bool, true, false, not, _&&_}
 use mathlib.Core.Logic.{⊎-elim}
+use mathlib.Core.List.{List}
 use Prim.Native.Nat.{ℕ, _<_}
 use native.Mathlib.Omega.{arith}
 use borrow.Author.Tests.{eq-eqb, ne-eqb, eqb-true, not-true}
@@ -9,17 +10,17 @@ use lib.Dec.{eqb}
 use Rattle.real.specs.Tests.{decided}
 use Rattle.real.specs.Paper.{Paper, given, refused}
 use Rattle.vectors.specs.Words.{Tells}
-use Rattle.vectors.specs.Words.Laws.{equal-told, _and_, last-told}
+use Rattle.vectors.specs.Words.Laws.{equal-told, _and_, last-told, same-told}
 use Rattle.network.specs.declared.Rows.{Rows}
-use Rattle.network.specs.Network.{Network}
+use Rattle.network.specs.Network.{Network, networkOf}
 use Rattle.trailer.specs.Trailer.{modeOf}
-use Rattle.case_text.specs.Answer.{paperOf, outcome}
+use Rattle.case_text.specs.Answer.{paperOf, Outcome, outcome}
 use Rattle.case_text.specs.declared.Contents.{Contents}
 use Rattle.case_text.specs.declared.Reading.{Reading}
 use Rattle.starts.specs.declared.AcStart.{AcStart}
 use Rattle.starts.specs.declared.AcStart.the-variants.{Flat, Case}
 use Rattle.case_text.proofs.Refusals.{Refused, refused-paper}
-use Rattle.text_vectors.specs.Told.{numberIn, placeOf, refusal, answer}
+use Rattle.text_vectors.specs.Told.{numberIn, placeOf, refusal, answer, paperTold, busesTold, slacksTold, generatorsTold, branchesTold, tripletsTold, outcomeTold}
 
 -- ---- the start
 
@@ -80,5 +81,15 @@ rows-told r q =
 
 -- ---- the answer and the tables
 
-pub outcome-parts : {p q : Paper Contents} {t u : Network} → outcome p t ≡ outcome q u → (p ≡ q) × (t ≡ u)
-outcome-parts e = (cc, cc)
+parts : {p q : Paper Contents} {t u : Network} → outcome p t ≡ outcome q u → (p ≡ q) × (t ≡ u)
+parts e = (cc, cc)
+
+pub outcome-told : {p : Paper Contents} {t : Network} (o : Outcome) (s : List ℕ) {a b r g l y : Bool} → outcome p t ≡ o → Tells a (p ≡ paperTold s)
+    → Tells b (t .buses ≡ busesTold s) → Tells r (t .slacks ≡ slacksTold s) → Tells g (t .generators ≡ generatorsTold s)
+    → Tells l (t .branches ≡ branchesTold s) → Tells y (t .triplets ≡ tripletsTold s)
+    → Tells (((((a && b) && r) && g) && l) && y) (o ≡ outcomeTold s)
+outcome-told o s is a b r g l y =
+    same-told is
+    (last-told (a and b and r and g and l and y)
+    (λ e. let f = parts e in (((((f .0, λ i. f .1 i .buses), λ i. f .1 i .slacks), λ i. f .1 i .generators), λ i. f .1 i .branches), λ i. f .1 i .triplets))
+    (λ (((((a, b), r), g), l), y). λ i. outcome (a i) (networkOf (b i) (r i) (g i) (l i) (y i))))

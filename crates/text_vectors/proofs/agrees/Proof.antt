@@ -1,13 +1,11 @@
 -- `text_vectors::agrees` meets its contract: the first places of columns of marks are lent to the reader, and then compared. Assumes nothing.
-use mathlib.Core.Path.{sym, _∙_}
 use native.Mathlib.Omega.{arith}
 use borrow.Author.Needs.{needs}
-use Rattle.vectors.specs.Words.Laws.{_and_, last-told, same-told}
+use Rattle.vectors.specs.Words.Laws.{same-told}
 use Rattle.vectors.specs.Sizes.{lent}
-use Rattle.network.specs.Network.{busesOf, slacksOf, generatorsOf, branchesOf, tripletsOf, networkOf}
-use Rattle.case_text.specs.Answer.{outcome}
+use Rattle.network.specs.Network.{busesOf, slacksOf, generatorsOf, branchesOf, tripletsOf}
 use Rattle.text_vectors.specs.Told.{numberMark, realMark}
-use Rattle.text_vectors.proofs.Papers.{outcome-parts}
+use Rattle.text_vectors.proofs.Papers.{outcome-told}
 use Rattle.text_vectors.proofs.Telling.{given-back}
 use Rattle.text_vectors.proofs.agrees.Statement.{statement}
 use Rattle.text_vectors.proofs.agrees.Tie as tie
@@ -36,14 +34,12 @@ returns c =
     let kg = kr .1 .1 in
     let kl = kg .1 .1 .1 in
     let ky = kl .1 .1 in
-    last-told (answered .answered .ensures
-    and (same-told (λ i. busesOf (n (lb .0) (kb .0) i) (x (lb .1 .0) (kb .1 .0) i) (x (lb .1 .1 .0) (kb .1 .1 .0) i) (x (lb .1 .1 .1 .0) (kb .1 .1 .1 .0) i) (x (lb .1 .1 .1 .1 .0) (kb .1 .1 .1 .1 .0) i) (x (lb .1 .1 .1 .1 .1 .0) (kb .1 .1 .1 .1 .1 .0) i) (x (lb .1 .1 .1 .1 .1 .1 .0) (kb .1 .1 .1 .1 .1 .1 .0) i) (x (lb .1 .1 .1 .1 .1 .1 .1 .0) (kb .1 .1 .1 .1 .1 .1 .1 .0) i)) (buses .buses-agree .ensures))
-    and (same-told (λ i. slacksOf (n (lr .0) (kr .0) i) (x (lr .1 .0) (kr .1 .0) i)) (slacks .slacks-agree .ensures))
-    and (same-told (λ i. generatorsOf (n (lg .0) (kg .0) i) (x (lg .1 .0) (kg .1 .0) i) (x (lg .1 .1 .0) (kg .1 .1 .0) i)) (generators .generators-agree .ensures))
-    and (same-told (λ i. branchesOf (n (ll .0) (kl .0) i) (n (ll .1 .0) (kl .1 .0) i)) (branches .branches-agree .ensures))
-    and (same-told (λ i. tripletsOf (n (ly .0) (ky .0) i) (n (ly .1 .0) (ky .1 .0) i) (x (ly .1 .1 .0) (ky .1 .1 .0) i) (x (ly .1 .1 .1 .0) (ky .1 .1 .1 .0) i)) (c .triplets-agree .ensures)))
-    (λ e. let f = outcome-parts (is ∙ e) in (((((f .0, λ i. f .1 i .buses), λ i. f .1 i .slacks), λ i. f .1 i .generators), λ i. f .1 i .branches), λ i. f .1 i .triplets))
-    (λ (((((a, b), r), g), l), y). sym is ∙ (λ i. outcome (a i) (networkOf (b i) (r i) (g i) (l i) (y i))))
+    outcome-told _ (width .before .before .args .s .now) is (answered .answered .ensures)
+    (same-told (λ i. busesOf (n (lb .0) (kb .0) i) (x (lb .1 .0) (kb .1 .0) i) (x (lb .1 .1 .0) (kb .1 .1 .0) i) (x (lb .1 .1 .1 .0) (kb .1 .1 .1 .0) i) (x (lb .1 .1 .1 .1 .0) (kb .1 .1 .1 .1 .0) i) (x (lb .1 .1 .1 .1 .1 .0) (kb .1 .1 .1 .1 .1 .0) i) (x (lb .1 .1 .1 .1 .1 .1 .0) (kb .1 .1 .1 .1 .1 .1 .0) i) (x (lb .1 .1 .1 .1 .1 .1 .1 .0) (kb .1 .1 .1 .1 .1 .1 .1 .0) i)) (buses .buses-agree .ensures))
+    (same-told (λ i. slacksOf (n (lr .0) (kr .0) i) (x (lr .1 .0) (kr .1 .0) i)) (slacks .slacks-agree .ensures))
+    (same-told (λ i. generatorsOf (n (lg .0) (kg .0) i) (x (lg .1 .0) (kg .1 .0) i) (x (lg .1 .1 .0) (kg .1 .1 .0) i)) (generators .generators-agree .ensures))
+    (same-told (λ i. branchesOf (n (ll .0) (kl .0) i) (n (ll .1 .0) (kl .1 .0) i)) (branches .branches-agree .ensures))
+    (same-told (λ i. tripletsOf (n (ly .0) (ky .0) i) (n (ly .1 .0) (ky .1 .0) i) (x (ly .1 .1 .0) (ky .1 .1 .0) i) (x (ly .1 .1 .1 .0) (ky .1 .1 .1 .0) i)) (c .triplets-agree .ensures))
 
 pub agrees-spec : {M : Type 1} → statement M
 agrees-spec =
