@@ -272,8 +272,7 @@ fn point(s: &[u8], n: usize, m: usize, dim: usize) -> bool
 }
 
 // One point: 0 where all agree, 1 where something differs, 2 where the input has no whole point left.
-fn next(head: &mut [u8], body: &mut [u8; 44032]) -> u64
-    requires { ⌜ length (now head) ≡ 24 ⌝ }
+fn next(head: &mut [u8; 24], body: &mut [u8; 44032]) -> u64
     ensures { λ r. ⌜ Found 2 r (Agrees (now (body .exit)) (wordOf 0 (now (head .exit))) (wordOf 8 (now (head .exit))) (wordOf 16 (now (head .exit)))) ⌝ }
 {
     if !vectors::read(STDIN_FILENO, head, 24) {
@@ -298,16 +297,15 @@ fn next(head: &mut [u8], body: &mut [u8; 44032]) -> u64
 }
 
 fn main() {
-    let mut front = [0u8; 24];
-    let head: &mut [u8] = &mut front;
+    let mut head = [0u8; 24];
     // room for the largest point
     let mut body = [0u8; 44032];
-    vectors::read(STDIN_FILENO, head, 8);
-    let count = vectors::word(head, 0);
+    vectors::read(STDIN_FILENO, &mut head, 8);
+    let count = vectors::word(&head, 0);
     let mut done = 0;
     let mut differing = 0;
     while done < count {
-        let found = next(head, &mut body);
+        let found = next(&mut head, &mut body);
         if found == 2 {
             break;
         }

@@ -99,8 +99,7 @@ fn agrees(s: &[u8], dim: usize, answer: u64) -> bool
 }
 
 // One system: 0 where the solve agrees, 1 where it differs, 2 where the input has no whole system left.
-fn next(head: &mut [u8], body: &mut [u8; 66560]) -> u64
-    requires { ⌜ length (now head) ≡ 16 ⌝ }
+fn next(head: &mut [u8; 16], body: &mut [u8; 66560]) -> u64
     ensures { λ r. ⌜ Found 2 r (Agrees (now (body .exit)) (wordOf 0 (now (head .exit))) (wordOf 8 (now (head .exit)))) ⌝ }
 {
     if !vectors::read(STDIN_FILENO, head, 16) {
@@ -117,16 +116,15 @@ fn next(head: &mut [u8], body: &mut [u8; 66560]) -> u64
 }
 
 fn main() {
-    let mut front = [0u8; 16];
-    let head: &mut [u8] = &mut front;
+    let mut head = [0u8; 16];
     // room for the largest system, twice
     let mut body = [0u8; 66560];
-    vectors::read(STDIN_FILENO, head, 8);
-    let count = vectors::word(head, 0);
+    vectors::read(STDIN_FILENO, &mut head, 8);
+    let count = vectors::word(&head, 0);
     let mut done = 0;
     let mut differing = 0;
     while done < count {
-        let found = next(head, &mut body);
+        let found = next(&mut head, &mut body);
         if found == 2 {
             break;
         }

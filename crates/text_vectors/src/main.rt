@@ -297,8 +297,7 @@ fn agrees(text: &[u8], s: &[u8; 600000]) -> bool
 }
 
 // One text: 0 where its reading agrees, 1 where it differs, 2 where the input has no whole record left.
-fn next(head: &mut [u8], text: &mut [u8], s: &mut [u8; 600000]) -> u64
-    requires { ⌜ (length (now head) ≡ 4) × (length (now text) ≡ 65536) ⌝ }
+fn next(head: &mut [u8; 4], text: &mut [u8; 65536], s: &mut [u8; 600000]) -> u64
     ensures { λ r. ⌜ Found 2 r (Agrees (take (pairOf 0 (now (head .exit))) (now (text .exit))) (now (s .exit))) ⌝ }
 {
     if !vectors::read(STDIN_FILENO, head, 4) {
@@ -311,21 +310,20 @@ fn next(head: &mut [u8], text: &mut [u8], s: &mut [u8; 600000]) -> u64
     if !vectors::read(STDIN_FILENO, s, vectors::pair(head, 2)) {
         return 2;
     }
-    vectors::verdict(agrees(&text[..n], s))
+    let read: &[u8] = text;
+    vectors::verdict(agrees(&read[..n], s))
 }
 
 fn main() {
-    let mut front = [0u8; 4];
-    let mut middle = io::large_buffer();
+    let mut head = [0u8; 4];
+    let mut text = io::large_buffer();
     let mut s = [0u8; 600000];
-    let head: &mut [u8] = &mut front;
-    let text: &mut [u8] = &mut middle;
     let mut done = 0;
     let mut differing = 0;
-    vectors::read(STDIN_FILENO, head, 2);
-    let count = vectors::pair(head, 0);
+    vectors::read(STDIN_FILENO, &mut head, 2);
+    let count = vectors::pair(&head, 0);
     while done < count {
-        let found = next(head, text, &mut s);
+        let found = next(&mut head, &mut text, &mut s);
         if found == 2 {
             break;
         }

@@ -19,8 +19,8 @@ point-requires c κs =
 returns-6 : tie.Need-returns-6
 returns-6 c =
     let d = c .before .before .before .before .before .before .before .before .before .before in
-    let m = d .before .before in
-    let n = m .before .before in
+    let m = d .before .before .before in
+    let n = m .before .before .before in
     found-told _ (omega arith) (rw (n .word .ensures, m .word2 .ensures, d .word3 .ensures) at (c .before .point .ensures)) (c .verdict .ensures)
 
 pub next-spec : {M : Type 1} → statement M
@@ -28,16 +28,12 @@ next-spec =
     tie.close
     (tie.spec
     (λ c κs. search needs)
-    (λ c. search needs)
     (λ c. no-record (omega arith) (omega arith))
     (λ c κs. search needs)
     (λ c κs. search needs)
     (λ c κs. search needs)
-    (λ c. search needs)
     (λ c. no-record (omega arith) (omega arith))
-    (λ c. search needs)
     (λ c. no-record (omega arith) (omega arith))
-    (λ c. search needs)
     (λ c. no-record (omega arith) (omega arith))
     (λ c. search needs)
     (λ c. search needs)
@@ -46,9 +42,7 @@ next-spec =
     (λ c. omega (arith, square _ (c .before .if4 .left)))
     (λ c. omega (arith, square _ (c .before .if4 .left)))
     (λ c κs. omega (arith, square _ (c .before .if4 .left)))
-    (λ c. search needs)
     (λ c. no-record (omega arith) (omega arith))
     point-requires
     (λ c κs. search needs)
-    (λ c. search needs)
     returns-6)

@@ -16,7 +16,7 @@ returns-3 c = no-record (omega arith) (omega arith)
 
 returns-4 : tie.Need-returns-4
 returns-4 c =
-    let word = c .before .before .before .before .before .before .before .before .before .before .before .word .ensures in
+    let word = c .before .before .before .before .before .before .before .before .before .before .before .before .word .ensures in
     found-told _ (omega arith) (rw (word, c .before .before .word2 .ensures) at (c .before .agrees .ensures)) (c .verdict .ensures)
 
 pub next-spec : {M : Type 1} → statement M
@@ -24,18 +24,14 @@ next-spec =
     tie.close
     (tie.spec
     (λ c κs. search needs)
-    (λ c. search needs)
     returns
     (λ c κs. search needs)
-    (λ c. search needs)
     returns-2
     (λ c κs. search needs)
     (λ c. search needs)
     (λ c κs. search needs)
-    (λ c. search needs)
     returns-3
     (λ c κs. search needs)
     (λ c κs. search needs)
     (λ c κs. search needs)
-    (λ c. search needs)
     returns-4)

@@ -21,7 +21,7 @@ slice-aggregate-agrees c = sym (length-take-le _ _ (omega arith))
 
 returns-4 : tie.Need-returns-4
 returns-4 c =
-    let pair = c .before .before .before .before .before .before .before .before .before .before .before .before .before .before .pair .ensures .0 in
+    let pair = c .before .before .before .before .before .before .before .before .before .before .before .before .before .before .before .pair .ensures .0 in
     found-told _ (omega arith) (rw pair at (c .before .agrees .ensures)) (c .verdict .ensures)
 
 pub next-spec : {M : Type 1} → statement M
@@ -29,22 +29,14 @@ next-spec =
     tie.close
     (tie.spec
     (λ c κs. search needs)
-    (λ c. search needs)
     returns
     (λ c κs. search needs)
     (λ c κs. search needs)
-    (λ c. search needs)
-    (λ c. search needs)
     returns-2
     (λ c κs. search needs)
     (λ c κs. search needs)
-    (λ c. search needs)
-    (λ c. search needs)
     returns-3
-    (λ c. search needs)
     slice-aggregate-agrees
     (λ c κs. search needs)
     (λ c κs. search needs)
-    (λ c. search needs)
-    (λ c. search needs)
     returns-4)
