@@ -2,7 +2,7 @@
 // (oracle/text_vectors.py has the format). Before each reading a column holds a mark in every place, and it must still do so past the rows.
 ghost use mathlib.Core.Path.{_≡_};
 ghost use Prim.Native.Nat.{_+_, _*_, _≤_, _<_};
-ghost use lib.ListN.{length, take};
+ghost use lib.ListN.{take};
 ghost use Rattle.vectors.specs.Words.{pairOf, Tells, Found};
 ghost use Rattle.network.specs.Network.{busesOf, slacksOf, generatorsOf, branchesOf, tripletsOf, firstBuses, firstSlacks, firstGenerators, firstBranches, firstTriplets};
 ghost use Rattle.trailer.specs.Trailer.{modeOf};
