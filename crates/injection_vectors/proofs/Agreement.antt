@@ -11,12 +11,15 @@ use Rattle.real.specs.Each.{each}
 use Rattle.real.specs.Each.Laws.{length-each, is-each}
 use Rattle.real.specs.Literals.{nought}
 use Rattle.vectors.specs.Words.{Tells}
-use Rattle.layout.specs.Table.{stores, Below, allBelow}
-use Rattle.layout.specs.Table.Laws.{stores-length, stores-at, all-below, below-all}
+use Rattle.network.specs.Below.{Below, allBelow}
+use Rattle.network.specs.Below.Laws.{all-below, below-all}
+use Rattle.layout.specs.Table.{stores}
+use Rattle.layout.specs.Table.Laws.{stores-length, stores-at}
 use Rattle.injections.specs.declared.Column.{Column}
 use Rattle.injections.specs.declared.Injections.{Injections}
-use Rattle.injections.specs.Injections.{ybus, GoodTriplets}
-use Rattle.injection_vectors.specs.Told.{wordsTold, doublesTold, ybusTold, Zeros, Holds, jacobianAt, Entries}
+use Rattle.network.specs.Network.{tripletsOf}
+use Rattle.injections.specs.Injections.{GoodTriplets}
+use Rattle.injection_vectors.specs.Told.{wordsTold, doublesTold, tripletsTold, Zeros, Holds, jacobianAt, Entries}
 
 -- whether all numbers of a list are below n, told of one that is equal
 pub below-told : (n : ℕ) (l m : List ℕ) (b : Bool) → l ≡ m → b ≡ allBelow (length l) n l → Tells b (Below n m)
@@ -38,12 +41,12 @@ injections-parts x v i p q a b c d = rw (← a, ← b, ← c, ← d)
 module _ (s : List ℕ) (m : ℕ) where
   pub ybus-parts : (row col : List ℕ) (re im : List Float)
       → row ≡ wordsTold s 0 m → col ≡ wordsTold s (m * 8) m → re ≡ doublesTold s (m * 16) m → im ≡ doublesTold s (m * 24) m
-      → ybus row col re im ≡ ybusTold s m
-  unfolding ybusTold
+      → tripletsOf row col re im ≡ tripletsTold s m
+  unfolding tripletsTold
   ybus-parts row col re im a b c d = rw (a, b, c, d)
 
-  pub good : (n : ℕ) → n ≤ 32 → Below n (ybusTold s m .row) → Below n (ybusTold s m .col) → GoodTriplets n (ybusTold s m)
-  unfolding ybusTold
+  pub good : (n : ℕ) → n ≤ 32 → Below n (tripletsTold s m .row) → Below n (tripletsTold s m .col) → GoodTriplets n (tripletsTold s m)
+  unfolding tripletsTold
   good n few rows cols =
       record {
         few = few;

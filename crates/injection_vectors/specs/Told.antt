@@ -11,11 +11,13 @@ use Rattle.real.specs.Each.{each}
 use Rattle.real.specs.Literals.{nought}
 use Rattle.vectors.specs.Words.{wordOf, doubleAt}
 use Rattle.layout.specs.declared.AcPfLayout.{AcPfLayout}
-use Rattle.layout.specs.Table.{table, Below}
+use Rattle.network.specs.Below.{Below}
+use Rattle.layout.specs.Table.{table}
 use Rattle.layout.specs.Layout.{none}
 use Rattle.injections.specs.declared.Column.{Column}
 use Rattle.injections.specs.declared.Injections.{Injections}
-use Rattle.injections.specs.Injections.{Ybus, ybus, phasorsOf, injectionsOf}
+use Rattle.network.specs.Network.{Triplets, tripletsOf}
+use Rattle.injections.specs.Injections.{phasorsOf, injectionsOf}
 use Rattle.injections.specs.Jacobian.{jacobianOf}
 
 -- the word and the double at place k of those that begin at a byte
@@ -60,8 +62,8 @@ injectionsTold s from n =
       power = record { p = tableTold s (from + n * 32) n; q = tableTold s (from + n * 40) n };
     }
 
-unfoldable pub ybusTold : List ℕ → ℕ → Ybus
-ybusTold s m = ybus (wordsTold s 0 m) (wordsTold s (m * 8) m) (doublesTold s (m * 16) m) (doublesTold s (m * 24) m)
+unfoldable pub tripletsTold : List ℕ → ℕ → Triplets
+tripletsTold s m = tripletsOf (wordsTold s 0 m) (wordsTold s (m * 8) m) (doublesTold s (m * 16) m) (doublesTold s (m * 24) m)
 
 -- the place i of the workspace: the block of dim rows and columns is told row by row; every other is 0.0
 unfoldable pub placeTold : List ℕ → ℕ → ℕ → ℕ → Float
@@ -90,10 +92,10 @@ vaTold s n m = tableTold s (m * 32 + n * 8) n
 
 -- the injections and the Jacobian by definition, at what is told
 unfoldable pub injectionsAt : List ℕ → ℕ → ℕ → Injections
-injectionsAt s n m = injectionsOf n (ybusTold s m) (vmTold s n m) (vaTold s n m)
+injectionsAt s n m = injectionsOf n (tripletsTold s m) (vmTold s n m) (vaTold s n m)
 
 unfoldable pub jacobianAt : List ℕ → ℕ → ℕ → ℕ → List Float → List Float
-jacobianAt s n m dim w = jacobianOf (ybusTold s m) (vaTold s n m) (phasorsOf n (ybusTold s m) (vmTold s n m) (vaTold s n m)) (layoutTold s (m * 32 + n * 16) n dim) w
+jacobianAt s n m dim w = jacobianOf (tripletsTold s m) (vaTold s n m) (phasorsOf n (tripletsTold s m) (vmTold s n m) (vaTold s n m)) (layoutTold s (m * 32 + n * 16) n dim) w
 
 -- the Jacobian, added to zeros, is what is told
 abbrev pub Entries : List ℕ → ℕ → ℕ → ℕ → Type 0
@@ -101,7 +103,7 @@ Entries s n m dim = (w : List Float) → Zeros w → Holds (jacobianAt s n m dim
 
 -- bus numbers are below n; injections and Jacobian are what is told
 pub record Agrees (s : List ℕ) (n m dim : ℕ) : Type 0 where
-  pub rows : Below n (ybusTold s m .row)
-  pub cols : Below n (ybusTold s m .col)
+  pub rows : Below n (tripletsTold s m .row)
+  pub cols : Below n (tripletsTold s m .col)
   pub injected : injectionsAt s n m ≡ injectionsTold s (m * 32 + n * 48) n
   pub entries : Entries s n m dim

@@ -2,11 +2,11 @@
 // says (oracle/injection_vectors.py has the format).
 ghost use mathlib.Core.Path.{_≡_};
 ghost use Prim.Native.Nat.{_+_, _*_, _≤_, _<_};
-ghost use lib.ListN.{length, replicate};
-ghost use Rattle.injections.specs.Injections.{ybus, GoodTriplets};
-ghost use Rattle.real.specs.Literals.{nought};
+ghost use lib.ListN.{length};
+ghost use Rattle.network.specs.Network.{tripletsOf};
+ghost use Rattle.injections.specs.Injections.{GoodTriplets};
 ghost use Rattle.vectors.specs.Words.{wordOf, Tells, Found};
-ghost use Rattle.injection_vectors.specs.Told.{wordsTold, doublesTold, tableTold, columnsTold, columnTold, layoutTold, injectionsTold, ybusTold, placeTold, Holds, Fits, injectionsAt, jacobianAt, Entries, Agrees};
+ghost use Rattle.injection_vectors.specs.Told.{wordsTold, doublesTold, tableTold, columnsTold, columnTold, layoutTold, injectionsTold, tripletsTold, placeTold, Holds, Fits, injectionsAt, jacobianAt, Entries, Agrees};
 use injections::Column;
 use injections::Injections;
 use layout::AcPfLayout;
@@ -158,7 +158,7 @@ fn injections_agree(
     re: &[f64],
     im: &[f64],
 ) -> bool
-    requires { ⌜ Fits (now s) n m dim × (ybus (now row) (now col) (now re) (now im) ≡ ybusTold (now s) m) × GoodTriplets n (ybusTold (now s) m) ⌝ }
+    requires { ⌜ Fits (now s) n m dim × (tripletsOf (now row) (now col) (now re) (now im) ≡ tripletsTold (now s) m) × GoodTriplets n (tripletsTold (now s) m) ⌝ }
     ensures { λ r. ⌜ Tells r (injectionsAt (now (s .entry)) n m ≡ injectionsTold (now (s .entry)) (m * 32 + n * 48) n) ⌝ }
 {
     let vm = doubles(s, m * 32, n);
@@ -178,7 +178,7 @@ fn jacobian_at(
     re: &[f64],
     im: &[f64],
 )
-    requires { ⌜ (4160 ≤ length (now w)) × Fits (now s) n m dim × (ybus (now row) (now col) (now re) (now im) ≡ ybusTold (now s) m) × GoodTriplets n (ybusTold (now s) m) ⌝ }
+    requires { ⌜ (4160 ≤ length (now w)) × Fits (now s) n m dim × (tripletsOf (now row) (now col) (now re) (now im) ≡ tripletsTold (now s) m) × GoodTriplets n (tripletsTold (now s) m) ⌝ }
     ensures { λ _. ⌜ now (w .exit) ≡ jacobianAt (now (s .entry)) n m dim (now (w .entry)) ⌝ }
 {
     let vm = doubles(s, m * 32, n);
@@ -198,7 +198,7 @@ fn jacobian_agrees(
     re: &[f64],
     im: &[f64],
 ) -> bool
-    requires { ⌜ Fits (now s) n m dim × (ybus (now row) (now col) (now re) (now im) ≡ ybusTold (now s) m) × GoodTriplets n (ybusTold (now s) m) ⌝ }
+    requires { ⌜ Fits (now s) n m dim × (tripletsOf (now row) (now col) (now re) (now im) ≡ tripletsTold (now s) m) × GoodTriplets n (tripletsTold (now s) m) ⌝ }
     ensures { λ r. ⌜ Tells r (Entries (now (s .entry)) n m dim) ⌝ }
 {
     let mut space = [0.0; 4224];
@@ -217,13 +217,13 @@ fn agrees(
     re: &[f64],
     im: &[f64],
 ) -> bool
-    requires { ⌜ Fits (now s) n m dim × (ybus (now row) (now col) (now re) (now im) ≡ ybusTold (now s) m) ⌝ }
+    requires { ⌜ Fits (now s) n m dim × (tripletsOf (now row) (now col) (now re) (now im) ≡ tripletsTold (now s) m) ⌝ }
     ensures { λ r. ⌜ Tells r (Agrees (now (s .entry)) n m dim) ⌝ }
 {
-    if !layout::below(n, row) {
+    if !network::below(n, row) {
         return false;
     }
-    if !layout::below(n, col) {
+    if !network::below(n, col) {
         return false;
     }
     if !injections_agree(s, n, m, dim, row, col, re, im) {
@@ -252,31 +252,14 @@ fn told_agrees(
     agrees(s, n, m, dim, row, col, re, im)
 }
 
-// Room for a column of triplets.
-fn numbers() -> [usize; 256]
-    ensures { λ r. ⌜ (r ≡ replicate 256 0) × (256 ≡ length r) ⌝ }
-{
-    [0; 256]
-}
-
-fn parts() -> [f64; 256]
-    ensures { λ r. ⌜ (r ≡ replicate 256 nought) × (256 ≡ length r) ⌝ }
-{
-    [0.0; 256]
-}
-
 fn point(s: &[u8], n: usize, m: usize, dim: usize) -> bool
     requires { ⌜ Fits (now s) n m dim ⌝ }
     ensures { λ r. ⌜ Tells r (Agrees (now (s .entry)) n m dim) ⌝ }
 {
-    let mut rows = numbers();
-    let mut cols = numbers();
-    let mut res = parts();
-    let mut ims = parts();
-    let row: &mut [usize] = &mut rows;
-    let col: &mut [usize] = &mut cols;
-    let re: &mut [f64] = &mut res;
-    let im: &mut [f64] = &mut ims;
+    let mut row = [0usize; 256];
+    let mut col = [0usize; 256];
+    let mut re = [0.0; 256];
+    let mut im = [0.0; 256];
     told_agrees(
         s,
         n,
@@ -290,8 +273,7 @@ fn point(s: &[u8], n: usize, m: usize, dim: usize) -> bool
 }
 
 // One point: 0 where all agree, 1 where something differs, 2 where the input has no whole point left.
-fn next(head: &mut [u8], body: &mut [u8]) -> u64
-    requires { ⌜ (length (now head) ≡ 24) × (length (now body) ≡ 44032) ⌝ }
+fn next(head: &mut [u8; 24], body: &mut [u8; 44032]) -> u64
     ensures { λ r. ⌜ Found 2 r (Agrees (now (body .exit)) (wordOf 0 (now (head .exit))) (wordOf 8 (now (head .exit))) (wordOf 16 (now (head .exit)))) ⌝ }
 {
     if !vectors::read(STDIN_FILENO, head, 24) {
@@ -312,30 +294,19 @@ fn next(head: &mut [u8], body: &mut [u8]) -> u64
     if !vectors::read(STDIN_FILENO, body, m * 32 + n * 96 + dim * dim * 8) {
         return 2;
     }
-    if point(body, n, m, dim) {
-        return 0;
-    }
-    1
-}
-
-// Room for the largest point.
-fn room() -> [u8; 44032]
-    ensures { λ r. ⌜ (r ≡ replicate 44032 0) × (44032 ≡ length r) ⌝ }
-{
-    [0; 44032]
+    vectors::verdict(point(body, n, m, dim))
 }
 
 fn main() {
-    let mut front = [0u8; 24];
-    let mut back = room();
-    let head: &mut [u8] = &mut front;
-    let body: &mut [u8] = &mut back;
-    vectors::read(STDIN_FILENO, head, 8);
-    let count = vectors::word(head, 0);
+    let mut head = [0u8; 24];
+    // room for the largest point
+    let mut body = [0u8; 44032];
+    vectors::read(STDIN_FILENO, &mut head, 8);
+    let count = vectors::word(&head, 0);
     let mut done = 0;
     let mut differing = 0;
     while done < count {
-        let found = next(head, body);
+        let found = next(&mut head, &mut body);
         if found == 2 {
             break;
         }

@@ -2,7 +2,7 @@
 // (oracle/linsolve_vectors.py has the format). Places outside a system hold a mark of their own, which must stay.
 ghost use mathlib.Core.Path.{_≡_};
 ghost use Prim.Native.Nat.{_+_, _*_, _≤_, _<_};
-ghost use lib.ListN.{length, replicate};
+ghost use lib.ListN.{length};
 ghost use Rattle.vectors.specs.Words.{wordOf, Tells, Found};
 ghost use Rattle.linsolve_vectors.specs.Told.{sizeOf, slotOf, markOf, toldOf, Holds, numberOf, Agrees};
 use libc::STDIN_FILENO;
@@ -99,8 +99,7 @@ fn agrees(s: &[u8], dim: usize, answer: u64) -> bool
 }
 
 // One system: 0 where the solve agrees, 1 where it differs, 2 where the input has no whole system left.
-fn next(head: &mut [u8], body: &mut [u8]) -> u64
-    requires { ⌜ (length (now head) ≡ 16) × (length (now body) ≡ 66560) ⌝ }
+fn next(head: &mut [u8; 16], body: &mut [u8; 66560]) -> u64
     ensures { λ r. ⌜ Found 2 r (Agrees (now (body .exit)) (wordOf 0 (now (head .exit))) (wordOf 8 (now (head .exit)))) ⌝ }
 {
     if !vectors::read(STDIN_FILENO, head, 16) {
@@ -113,30 +112,19 @@ fn next(head: &mut [u8], body: &mut [u8]) -> u64
     if !vectors::read(STDIN_FILENO, body, size(dim) * 16) {
         return 2;
     }
-    if agrees(body, dim, vectors::word(head, 8)) {
-        return 0;
-    }
-    1
-}
-
-// Room for the largest system, twice.
-fn room() -> [u8; 66560]
-    ensures { λ r. ⌜ (r ≡ replicate 66560 0) × (66560 ≡ length r) ⌝ }
-{
-    [0; 66560]
+    vectors::verdict(agrees(body, dim, vectors::word(head, 8)))
 }
 
 fn main() {
-    let mut front = [0u8; 16];
-    let mut back = room();
-    let head: &mut [u8] = &mut front;
-    let body: &mut [u8] = &mut back;
-    vectors::read(STDIN_FILENO, head, 8);
-    let count = vectors::word(head, 0);
+    let mut head = [0u8; 16];
+    // room for the largest system, twice
+    let mut body = [0u8; 66560];
+    vectors::read(STDIN_FILENO, &mut head, 8);
+    let count = vectors::word(&head, 0);
     let mut done = 0;
     let mut differing = 0;
     while done < count {
-        let found = next(head, body);
+        let found = next(&mut head, &mut body);
         if found == 2 {
             break;
         }

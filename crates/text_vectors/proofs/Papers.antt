@@ -1,24 +1,26 @@
--- An answer is the one told exactly where its number is, and with it the place or the tables. Assumes nothing.
+-- An answer is the one told exactly where its number is, and with it the place or what the text holds. Assumes nothing.
 use mathlib.Core.Path.{_≡_, sym, ap, _∙_}
 use mathlib.Core.Bool.{Bool, true, false, not, _&&_}
 use mathlib.Core.Logic.{⊎-elim}
+use mathlib.Core.List.{List}
 use Prim.Native.Nat.{ℕ, _<_}
 use native.Mathlib.Omega.{arith}
 use borrow.Author.Tests.{eq-eqb, ne-eqb, eqb-true, not-true}
 use lib.Dec.{eqb}
-use mathlib.Core.List.{List}
 use Rattle.real.specs.Tests.{decided}
 use Rattle.real.specs.Paper.{Paper, given, refused}
-use Rattle.vectors.specs.Words.{pairOf, Tells}
-use Rattle.vectors.specs.Words.Laws.{equal-told, both-told}
+use Rattle.vectors.specs.Words.{Tells}
+use Rattle.vectors.specs.Words.Laws.{equal-told, _and_, last-told, same-told}
+use Rattle.network.specs.declared.Rows.{Rows}
+use Rattle.network.specs.Network.{Network, networkOf}
 use Rattle.trailer.specs.Trailer.{modeOf}
-use Rattle.case_text.specs.Answer.{paperOf}
-use Rattle.case_text.specs.declared.Tables.{Tables}
+use Rattle.case_text.specs.Answer.{paperOf, ReadResult, readResult}
+use Rattle.case_text.specs.declared.Contents.{Contents}
 use Rattle.case_text.specs.declared.Reading.{Reading}
 use Rattle.starts.specs.declared.AcStart.{AcStart}
 use Rattle.starts.specs.declared.AcStart.the-variants.{Flat, Case}
 use Rattle.case_text.proofs.Refusals.{Refused, refused-paper}
-use Rattle.text_vectors.specs.Told.{numberIn, placeOf, refusal, answer, rowsTold, tablesTold, paperTold}
+use Rattle.text_vectors.specs.Told.{numberIn, placeOf, refusal, answer, paperTold, busesTold, slacksTold, generatorsTold, branchesTold, tripletsTold, outcomeTold}
 
 -- ---- the start
 
@@ -37,10 +39,10 @@ case-told n = (λ e. rw (not-true (eqb n 70) e), λ e. rw (sym (flat-mode n) ∙
 
 -- ---- a refusal
 
-number-answer : (n at : ℕ) (c : Tables) → numberIn (answer n at c) ≡ n
+number-answer : (n at : ℕ) (c : Contents) → numberIn (answer n at c) ≡ n
 number-answer n at c = ⊎-elim (λ e. rw e (sym (eqb-true n 0 e))) (λ e. rw e) (decided (eqb n 0))
 
-module _ (n at m p : ℕ) (c : Tables) where
+module _ (n at m p : ℕ) (c : Contents) where
   pub same-number : refusal n at ≡ answer m p c → n ≡ m
   same-number e = ap numberIn e ∙ number-answer m p c
 
@@ -59,28 +61,35 @@ refusal-number v h = let t = refused-paper v h in rw (t .3) (t .2)
 
 -- ---- a good answer
 
-abbrev tablesIn : Tables → Paper Tables → Tables
-tablesIn d (given c) = c
-tablesIn d (refused n values) = d
+abbrev contentsIn : Contents → Paper Contents → Contents
+contentsIn d (given c) = c
+contentsIn d (refused n values) = d
 
-same-tables : (c d : Tables) → c .start ≡ d .start → c .buses ≡ d .buses → c .slacks ≡ d .slacks → c .generators ≡ d .generators → c .branches ≡ d .branches
-    → c .triplets ≡ d .triplets → c ≡ d
-same-tables c d a b r g l y = λ i. record { start = a i; buses = b i; slacks = r i; generators = g i; branches = l i; triplets = y i }
+module _ (n at : ℕ) (c d : Contents) where
+  pub good-answer : n ≡ 0 → c ≡ d → given c ≡ answer n at d
+  good-answer z e = rw (z, e)
 
-good-answer : (n at : ℕ) (d : Tables) → n ≡ 0 → given d ≡ answer n at d
-good-answer n at d z = rw z
+  pub good-parts : given c ≡ answer n at d → (n ≡ 0) × (c ≡ d)
+  good-parts e = let z = sym (ap numberIn e ∙ number-answer n at d) in (z, rw (eq-eqb n 0 z) at (ap (contentsIn c) e))
 
-parts : (n at : ℕ) (c d : Tables) → given c ≡ answer n at d → (n ≡ 0) × (c ≡ d)
-parts n at c d e = let z = sym (ap numberIn e ∙ number-answer n at d) in (z, rw (eq-eqb n 0 z) at (ap (tablesIn c) e))
+pub rows-told : (r q : Rows)
+    → Tells ((((eqb (r .buses) (q .buses) && eqb (r .slacks) (q .slacks)) && eqb (r .generators) (q .generators)) && eqb (r .branches) (q .branches)) && eqb (r .triplets) (q .triplets)) (r ≡ q)
+rows-told r q =
+    last-told (equal-told _ _ and equal-told _ _ and equal-told _ _ and equal-told _ _ and equal-told _ _)
+    (λ e. ((((λ i. e i .buses, λ i. e i .slacks), λ i. e i .generators), λ i. e i .branches), λ i. e i .triplets))
+    (λ ((((b, r), g), l), y). λ i. record { buses = b i; slacks = r i; generators = g i; branches = l i; triplets = y i })
 
-pub tables-told : (s : List ℕ) (c : Tables) {f : Bool} {n b r g l y : ℕ} → n ≡ pairOf 0 s → Tells f (c .start ≡ modeOf (pairOf 4 s))
-    → b ≡ rowsTold s 0 → r ≡ rowsTold s 8 → g ≡ rowsTold s 10 → l ≡ rowsTold s 13 → y ≡ rowsTold s 15
-    → Tells ((((((eqb n 0 && f) && eqb (c .buses) b) && eqb (c .slacks) r) && eqb (c .generators) g) && eqb (c .branches) l) && eqb (c .triplets) y) (given c ≡ paperTold s)
-tables-told s c {f} {n} {b} {r} {g} {l} {y} en started eb er eg el ey =
-    let t = both-told _ _ (both-told _ _ (both-told _ _ (both-told _ _ (both-told _ _ (both-told _ _ (equal-told n 0) started) (equal-told (c .buses) b)) (equal-told (c .slacks) r)) (equal-told (c .generators) g)) (equal-told (c .branches) l)) (equal-told (c .triplets) y) in (
-      λ e. let p = t .0 e in
-          let z = sym en ∙ p .0 .0 .0 .0 .0 .0 in
-          ap given (same-tables c (tablesTold s) (p .0 .0 .0 .0 .0 .1) (p .0 .0 .0 .0 .1 ∙ eb) (p .0 .0 .0 .1 ∙ er) (p .0 .0 .1 ∙ eg) (p .0 .1 ∙ el) (p .1 ∙ ey)) ∙ good-answer (pairOf 0 s) (pairOf 2 s) (tablesTold s) z,
-      λ e. let p = parts (pairOf 0 s) (pairOf 2 s) c (tablesTold s) e in
-          t .1 ((((((en ∙ p .0, ap (λ (d : Tables). d .start) (p .1)), ap (λ (d : Tables). d .buses) (p .1) ∙ sym eb), ap (λ (d : Tables). d .slacks) (p .1) ∙ sym er), ap (λ (d : Tables). d .generators) (p .1) ∙ sym eg), ap (λ (d : Tables). d .branches) (p .1) ∙ sym el), ap (λ (d : Tables). d .triplets) (p .1) ∙ sym ey),
-    )
+-- ---- the answer and the tables
+
+parts : {p q : Paper Contents} {t u : Network} → readResult p t ≡ readResult q u → (p ≡ q) × (t ≡ u)
+parts e = (cc, cc)
+
+pub outcome-told : {p : Paper Contents} {t : Network} (o : ReadResult) (s : List ℕ) {a b r g l y : Bool} → readResult p t ≡ o → Tells a (p ≡ paperTold s)
+    → Tells b (t .buses ≡ busesTold s) → Tells r (t .slacks ≡ slacksTold s) → Tells g (t .generators ≡ generatorsTold s)
+    → Tells l (t .branches ≡ branchesTold s) → Tells y (t .triplets ≡ tripletsTold s)
+    → Tells (((((a && b) && r) && g) && l) && y) (o ≡ outcomeTold s)
+outcome-told o s is a b r g l y =
+    same-told is
+    (last-told (a and b and r and g and l and y)
+    (λ e. let f = parts e in (((((f .0, λ i. f .1 i .buses), λ i. f .1 i .slacks), λ i. f .1 i .generators), λ i. f .1 i .branches), λ i. f .1 i .triplets))
+    (λ (((((a, b), r), g), l), y). λ i. readResult (a i) (networkOf (b i) (r i) (g i) (l i) (y i))))

@@ -4,83 +4,97 @@ use mathlib.Core.Bool.{cond}
 use mathlib.Core.List.{List, [], _∷_}
 use Prim.Native.Nat.{ℕ, _+_, _*_, min}
 use lib.Dec.{eqb}
-use lib.ListN.{length, replicate}
+use lib.ListN.{take, replicate}
 use lib.Ieee.{Float, binary64, ofBits}
 use Rattle.real.specs.Paper.{Paper, given, refused, whole, placeIn}
 use Rattle.real.specs.Each.{each}
 use Rattle.real.specs.Literals.{lit}
 use Rattle.vectors.specs.Words.{pairOf, wordOf}
 use Rattle.trailer.specs.Trailer.{modeOf}
-use Rattle.case_text.specs.Answer.{Columns, columns, Outcome, outcome, readOf}
-use Rattle.case_text.specs.declared.Tables.{Tables}
+use Rattle.network.specs.declared.Rows.{Rows}
+use Rattle.network.specs.Network.{Buses, Slacks, Generators, Branches, Triplets, Network, busesOf, slacksOf, generatorsOf, branchesOf, tripletsOf, networkOf, rowCounts}
+use Rattle.case_text.specs.Answer.{ReadResult, readResult, readOf}
+use Rattle.case_text.specs.declared.Contents.{Contents}
 
 -- an answer's number, 0 of a good one, and its place, 0 where it has none
-abbrev pub numberIn : Paper Tables → ℕ
+abbrev pub numberIn : Paper Contents → ℕ
 numberIn (given c) = 0
 numberIn (refused n values) = n
 
-abbrev pub placeOf : Paper Tables → ℕ
+abbrev pub placeOf : Paper Contents → ℕ
 placeOf (given c) = 0
 placeOf (refused n values) = placeIn values
 
 -- the refusal of a number; 9 has no place
-abbrev pub refusal : ℕ → ℕ → Paper Tables
+abbrev pub refusal : ℕ → ℕ → Paper Contents
 refusal n at = refused n (cond (eqb n 9) [] (whole at ∷ []))
 
 -- the answer of a number: 0 stands for a good one
-abbrev pub answer : ℕ → ℕ → Tables → Paper Tables
+abbrev pub answer : ℕ → ℕ → Contents → Paper Contents
 answer n at c = cond (eqb n 0) (given c) (refusal n at)
 
 -- a column's rows
-abbrev pub rowsTold : List ℕ → ℕ → ℕ
-rowsTold s j = pairOf (10 + j * 4) s
+abbrev pub rowsIn : List ℕ → ℕ → ℕ
+rowsIn s j = pairOf (10 + j * 4) s
 
 -- the rows of each table are those of its first column
-abbrev pub tablesTold : List ℕ → Tables
-tablesTold s = record {
-  start = modeOf (pairOf 4 s);
-  buses = rowsTold s 0;
-  slacks = rowsTold s 8;
-  generators = rowsTold s 10;
-  branches = rowsTold s 13;
-  triplets = rowsTold s 15;
-}
+abbrev pub rowsTold : List ℕ → Rows
+rowsTold s = rowCounts (rowsIn s 0) (rowsIn s 8) (rowsIn s 10) (rowsIn s 13) (rowsIn s 15)
 
-abbrev pub paperTold : List ℕ → Paper Tables
-paperTold s = answer (pairOf 0 s) (pairOf 2 s) (tablesTold s)
+abbrev pub contentsTold : List ℕ → Contents
+contentsTold s = record { start = modeOf (pairOf 4 s); rows = rowsTold s }
 
--- the word of place i of column j: the rows' stand one behind the other, and behind them that of every place past the rows
-unfoldable pub wordTold : List ℕ → ℕ → ℕ → ℕ
-wordTold s j i = wordOf (pairOf (8 + j * 4) s + min i (rowsTold s j) * 8) s
+abbrev pub paperTold : List ℕ → Paper Contents
+paperTold s = answer (pairOf 0 s) (pairOf 2 s) (contentsTold s)
 
--- column j, as long as before
-abbrev pub numbersTold : List ℕ → ℕ → List ℕ → List ℕ
-numbersTold s j old = each (length old) (wordTold s j)
-
-abbrev pub realsTold : List ℕ → ℕ → List Float → List Float
-realsTold s j old = each (length old) (λ i. ofBits binary64 (wordTold s j i))
-
-abbrev pub columnsTold : List ℕ → Columns → Columns
-columnsTold s (columns kind vmSet pd qd pg qg vmCase vaCase slacks vaSlacks genBus qmin qmax brFrom brTo yRow yCol yRe yIm) =
-    columns (numbersTold s 0 kind) (realsTold s 1 vmSet) (realsTold s 2 pd) (realsTold s 3 qd) (realsTold s 4 pg) (realsTold s 5 qg)
-    (realsTold s 6 vmCase) (realsTold s 7 vaCase) (numbersTold s 8 slacks) (realsTold s 9 vaSlacks) (numbersTold s 10 genBus)
-    (realsTold s 11 qmin) (realsTold s 12 qmax) (numbersTold s 13 brFrom) (numbersTold s 14 brTo) (numbersTold s 15 yRow)
-    (numbersTold s 16 yCol) (realsTold s 17 yRe) (realsTold s 18 yIm)
-
-abbrev pub outcomeTold : List ℕ → Columns → Outcome
-outcomeTold s old = outcome (paperTold s) (columnsTold s old)
-
--- how many places each column has
+-- how many places of each column are lent
 abbrev pub widthTold : List ℕ → ℕ
 widthTold s = min (pairOf 6 s) 258
 
--- columns of m places, a mark in each: 251, which is no kind's byte and no bus number of these texts, or 1e300, which no real of 15 digits is
-abbrev pub marks : ℕ → Columns
+-- the word of place i of column j: the rows' stand one behind the other, and behind them that of every place past the rows
+unfoldable pub wordTold : List ℕ → ℕ → ℕ → ℕ
+wordTold s j i = wordOf (pairOf (8 + j * 4) s + min i (rowsIn s j) * 8) s
+
+-- column j's lent places
+abbrev pub numbersTold : List ℕ → ℕ → List ℕ
+numbersTold s j = each (widthTold s) (wordTold s j)
+
+abbrev pub realsTold : List ℕ → ℕ → List Float
+realsTold s j = each (widthTold s) (λ i. ofBits binary64 (wordTold s j i))
+
+-- each table, its columns in the order of its line
+abbrev pub busesTold : List ℕ → Buses
+busesTold s = busesOf (numbersTold s 0) (realsTold s 1) (realsTold s 2) (realsTold s 3) (realsTold s 4) (realsTold s 5) (realsTold s 6) (realsTold s 7)
+
+abbrev pub slacksTold : List ℕ → Slacks
+slacksTold s = slacksOf (numbersTold s 8) (realsTold s 9)
+
+abbrev pub generatorsTold : List ℕ → Generators
+generatorsTold s = generatorsOf (numbersTold s 10) (realsTold s 11) (realsTold s 12)
+
+abbrev pub branchesTold : List ℕ → Branches
+branchesTold s = branchesOf (numbersTold s 13) (numbersTold s 14)
+
+abbrev pub tripletsTold : List ℕ → Triplets
+tripletsTold s = tripletsOf (numbersTold s 15) (numbersTold s 16) (realsTold s 17) (realsTold s 18)
+
+abbrev pub outcomeTold : List ℕ → ReadResult
+outcomeTold s = readResult (paperTold s) (networkOf (busesTold s) (slacksTold s) (generatorsTold s) (branchesTold s) (tripletsTold s))
+
+-- a column's mark, in every place before a reading: no kind's byte and no bus number of these texts, and no real of 15 digits, which is 1e300
+abbrev pub numberMark : ℕ
+numberMark = 251
+
+abbrev pub realMark : Float
+realMark = lit 0x7e37_e43c_8800_759c
+
+-- the first m places of columns of marks
+abbrev pub marks : ℕ → Network
 marks m =
-    let n : List ℕ = replicate m 251 in
-    let x : List Float = replicate m (lit 0x7e37_e43c_8800_759c) in
-    columns n x x x x x x x n x n x x n n n n x x
+    let n = take m (replicate 258 numberMark) in
+    let x = take m (replicate 258 realMark) in
+    networkOf (busesOf n x x x x x x x) (slacksOf n x) (generatorsOf n x x) (branchesOf n n) (tripletsOf n n x x)
 
 -- the reader's definition gives what the record says of the text
 abbrev pub Agrees : List ℕ → List ℕ → Type 0
-Agrees text s = readOf text (marks (widthTold s)) ≡ outcomeTold s (marks (widthTold s))
+Agrees text s = readOf text (marks (widthTold s)) ≡ outcomeTold s

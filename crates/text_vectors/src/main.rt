@@ -2,40 +2,51 @@
 // (oracle/text_vectors.py has the format). Before each reading a column holds a mark in every place, and it must still do so past the rows.
 ghost use mathlib.Core.Path.{_≡_};
 ghost use Prim.Native.Nat.{_+_, _*_, _≤_, _<_};
-ghost use lib.ListN.{length, take, replicate};
+ghost use lib.ListN.{take};
 ghost use Rattle.vectors.specs.Words.{pairOf, Tells, Found};
+ghost use Rattle.network.specs.Network.{busesOf, slacksOf, generatorsOf, branchesOf, tripletsOf, firstBuses, firstSlacks, firstGenerators, firstBranches, firstTriplets};
 ghost use Rattle.trailer.specs.Trailer.{modeOf};
 ghost use Rattle.real.specs.Paper.{given};
 ghost use Rattle.case_text.specs.Answer.{paperOf};
-ghost use Rattle.text_vectors.specs.Told.{numberIn, placeOf, refusal, rowsTold, paperTold, wordTold, numbersTold, realsTold, Agrees};
+ghost use Rattle.text_vectors.specs.Told.{numberIn, placeOf, refusal, rowsIn, rowsTold, paperTold, widthTold, wordTold, numbersTold, realsTold};
+ghost use Rattle.text_vectors.specs.Told.{busesTold, slacksTold, generatorsTold, branchesTold, tripletsTold, Agrees};
 use libc::STDIN_FILENO;
 use starts::AcStart;
 
-// The record is s throughout, and j counts the columns in read_case's order.
+// The record is s throughout, with room for any: a start and rows of two bytes each lead no further than 65,535 + 65,536 * 8. j counts the columns in read_case's order.
 
-fn rows(s: &[u8], j: usize) -> usize
-    requires { ⌜ (j < 19) × (600000 ≤ length (now s)) ⌝ }
-    ensures { λ r. ⌜ (r ≡ rowsTold (now (s .entry)) j) × (r < 65536) ⌝ }
+fn rows(s: &[u8; 600000], j: usize) -> usize
+    requires { ⌜ j < 19 ⌝ }
+    ensures { λ r. ⌜ (r ≡ rowsIn (now (s .entry)) j) × (r < 65536) ⌝ }
 {
     vectors::pair(s, 10 + j * 4)
 }
 
+// How many places of each column are lent: as many as the record asks, so that refusal 9 can be met.
+fn width(s: &[u8; 600000]) -> usize
+    ensures { λ r. ⌜ (r ≡ widthTold (now (s .entry))) × (r ≤ 258) ⌝ }
+{
+    real::least(vectors::pair(s, 6), 258)
+}
+
 // What the input says of place i of column j.
-fn told(s: &[u8], j: usize, i: usize) -> u64
-    requires { ⌜ (j < 19) × (600000 ≤ length (now s)) ⌝ }
+fn told(s: &[u8; 600000], j: usize, i: usize) -> u64
+    requires { ⌜ j < 19 ⌝ }
     ensures { λ r. ⌜ r ≡ wordTold (now (s .entry)) j i ⌝ }
 {
     let k = real::least(i, rows(s, j));
     vectors::word(s, vectors::pair(s, 8 + j * 4) + k * 8)
 }
 
-// Whether each place of a column holds what the input says; one function for each type of element.
-fn kinds(s: &[u8], j: usize, col: &[u8]) -> bool
-    requires { ⌜ (j < 19) × (600000 ≤ length (now s)) ⌝ }
-    ensures { λ r. ⌜ Tells r (now (col .entry) ≡ numbersTold (now (s .entry)) j (now (col .entry))) ⌝ }
+// Whether a column's lent places hold what the input says; one function for each type of element.
+fn kinds(s: &[u8; 600000], j: usize, col: &[u8; 258]) -> bool
+    requires { ⌜ j < 19 ⌝ }
+    ensures { λ r. ⌜ Tells r (take (widthTold (now (s .entry))) (now (col .entry)) ≡ numbersTold (now (s .entry)) j) ⌝ }
 {
+    let col: &[u8] = col;
+    let n = width(s);
     let mut i = 0;
-    while i < col.len() {
+    while i < n {
         if vectors::wide(col[i]) != told(s, j, i) {
             return false;
         }
@@ -44,12 +55,14 @@ fn kinds(s: &[u8], j: usize, col: &[u8]) -> bool
     true
 }
 
-fn numbers(s: &[u8], j: usize, col: &[usize]) -> bool
-    requires { ⌜ (j < 19) × (600000 ≤ length (now s)) ⌝ }
-    ensures { λ r. ⌜ Tells r (now (col .entry) ≡ numbersTold (now (s .entry)) j (now (col .entry))) ⌝ }
+fn numbers(s: &[u8; 600000], j: usize, col: &[usize; 258]) -> bool
+    requires { ⌜ j < 19 ⌝ }
+    ensures { λ r. ⌜ Tells r (take (widthTold (now (s .entry))) (now (col .entry)) ≡ numbersTold (now (s .entry)) j) ⌝ }
 {
+    let col: &[usize] = col;
+    let n = width(s);
     let mut i = 0;
-    while i < col.len() {
+    while i < n {
         if col[i] as u64 != told(s, j, i) {
             return false;
         }
@@ -58,12 +71,14 @@ fn numbers(s: &[u8], j: usize, col: &[usize]) -> bool
     true
 }
 
-fn reals(s: &[u8], j: usize, col: &[f64]) -> bool
-    requires { ⌜ (j < 19) × (600000 ≤ length (now s)) ⌝ }
-    ensures { λ r. ⌜ Tells r (now (col .entry) ≡ realsTold (now (s .entry)) j (now (col .entry))) ⌝ }
+fn reals(s: &[u8; 600000], j: usize, col: &[f64; 258]) -> bool
+    requires { ⌜ j < 19 ⌝ }
+    ensures { λ r. ⌜ Tells r (take (widthTold (now (s .entry))) (now (col .entry)) ≡ realsTold (now (s .entry)) j) ⌝ }
 {
+    let col: &[f64] = col;
+    let n = width(s);
     let mut i = 0;
-    while i < col.len() {
+    while i < n {
         if !vectors::same(col[i], vectors::double(told(s, j, i))) {
             return false;
         }
@@ -84,7 +99,7 @@ fn number(r: case_text::Reading) -> usize
         case_text::Reading::Rows(_) => 6,
         case_text::Reading::Form(_) => 4,
         case_text::Reading::Field(_) => 5,
-        case_text::Reading::Short => 9,
+        case_text::Reading::Room => 9,
     }
 }
 
@@ -100,13 +115,13 @@ fn place(r: case_text::Reading) -> usize
         case_text::Reading::Rows(at) => at,
         case_text::Reading::Form(at) => at,
         case_text::Reading::Field(at) => at,
-        case_text::Reading::Short => 0,
+        case_text::Reading::Room => 0,
     }
 }
 
 // Whether the input says this refusal. Refusal 9 has no place.
-fn refused(s: &[u8], n: usize, at: usize) -> bool
-    requires { ⌜ (0 < n) × (600000 ≤ length (now s)) ⌝ }
+fn refused(s: &[u8; 600000], n: usize, at: usize) -> bool
+    requires { ⌜ 0 < n ⌝ }
     ensures { λ r. ⌜ Tells r (refusal n at ≡ paperTold (now (s .entry))) ⌝ }
 {
     if vectors::pair(s, 0) != n {
@@ -127,23 +142,26 @@ fn starts(m: AcStart, letter: usize) -> bool
     letter == 70
 }
 
-// Whether the input says these tables: a table's rows are those of its first column.
-fn good(s: &[u8], c: case_text::Tables) -> bool
-    requires { ⌜ 600000 ≤ length (now s) ⌝ }
+// Whether the input says these rows: a table's are those of its first column.
+fn rows_agree(s: &[u8; 600000], r: network::Rows) -> bool
+    ensures { λ t. ⌜ Tells t (r ≡ rowsTold (now (s .entry))) ⌝ }
+{
+    (r.buses == rows(s, 0))
+        & (r.slacks == rows(s, 8))
+        & (r.generators == rows(s, 10))
+        & (r.branches == rows(s, 13))
+        & (r.triplets == rows(s, 15))
+}
+
+fn good(s: &[u8; 600000], c: case_text::Contents) -> bool
     ensures { λ r. ⌜ Tells r (given c ≡ paperTold (now (s .entry))) ⌝ }
 {
     let m = c.start;
-    (vectors::pair(s, 0) == 0)
-        & starts(m, vectors::pair(s, 4))
-        & (c.buses == rows(s, 0))
-        & (c.slacks == rows(s, 8))
-        & (c.generators == rows(s, 10))
-        & (c.branches == rows(s, 13))
-        & (c.triplets == rows(s, 15))
+    let r = c.rows;
+    (vectors::pair(s, 0) == 0) & starts(m, vectors::pair(s, 4)) & rows_agree(s, r)
 }
 
-fn answered(s: &[u8], v: case_text::Reading) -> bool
-    requires { ⌜ 600000 ≤ length (now s) ⌝ }
+fn answered(s: &[u8; 600000], v: case_text::Reading) -> bool
     ensures { λ r. ⌜ Tells r (paperOf v ≡ paperTold (now (s .entry))) ⌝ }
 {
     let case_text::Reading::Good(c) = v else {
@@ -152,12 +170,83 @@ fn answered(s: &[u8], v: case_text::Reading) -> bool
     good(s, c)
 }
 
-// Whether the reading of a text, into columns of marks, is as the record says. The columns are as long as the record asks, so that refusal 9 can be met.
-fn agrees(text: &[u8], s: &[u8]) -> bool
-    requires { ⌜ 600000 ≤ length (now s) ⌝ }
+// ---- each table, column by column
+
+fn buses_agree(
+    s: &[u8; 600000],
+    kind: &[u8; 258],
+    vm_set: &[f64; 258],
+    pd: &[f64; 258],
+    qd: &[f64; 258],
+    pg: &[f64; 258],
+    qg: &[f64; 258],
+    vm_case: &[f64; 258],
+    va_case: &[f64; 258],
+) -> bool
+    ensures { λ r.
+        let m = widthTold (now (s .entry)) in
+        ⌜ Tells r (firstBuses m (busesOf (now (kind .entry)) (now («vm_set» .entry)) (now (pd .entry)) (now (qd .entry)) (now (pg .entry)) (now (qg .entry)) (now («vm_case» .entry)) (now («va_case» .entry))) ≡ busesTold (now (s .entry))) ⌝ }
+{
+    kinds(s, 0, kind)
+        & reals(s, 1, vm_set)
+        & reals(s, 2, pd)
+        & reals(s, 3, qd)
+        & reals(s, 4, pg)
+        & reals(s, 5, qg)
+        & reals(s, 6, vm_case)
+        & reals(s, 7, va_case)
+}
+
+fn slacks_agree(s: &[u8; 600000], slacks: &[usize; 258], va_slacks: &[f64; 258]) -> bool
+    ensures { λ r.
+        let m = widthTold (now (s .entry)) in
+        ⌜ Tells r (firstSlacks m (slacksOf (now (slacks .entry)) (now («va_slacks» .entry))) ≡ slacksTold (now (s .entry))) ⌝ }
+{
+    numbers(s, 8, slacks) & reals(s, 9, va_slacks)
+}
+
+fn generators_agree(
+    s: &[u8; 600000],
+    gen_bus: &[usize; 258],
+    qmin: &[f64; 258],
+    qmax: &[f64; 258],
+) -> bool
+    ensures { λ r.
+        let m = widthTold (now (s .entry)) in
+        ⌜ Tells r (firstGenerators m (generatorsOf (now («gen_bus» .entry)) (now (qmin .entry)) (now (qmax .entry))) ≡ generatorsTold (now (s .entry))) ⌝ }
+{
+    numbers(s, 10, gen_bus) & reals(s, 11, qmin) & reals(s, 12, qmax)
+}
+
+fn branches_agree(s: &[u8; 600000], br_from: &[usize; 258], br_to: &[usize; 258]) -> bool
+    ensures { λ r.
+        let m = widthTold (now (s .entry)) in
+        ⌜ Tells r (firstBranches m (branchesOf (now («br_from» .entry)) (now («br_to» .entry))) ≡ branchesTold (now (s .entry))) ⌝ }
+{
+    numbers(s, 13, br_from) & numbers(s, 14, br_to)
+}
+
+fn triplets_agree(
+    s: &[u8; 600000],
+    y_row: &[usize; 258],
+    y_col: &[usize; 258],
+    y_re: &[f64; 258],
+    y_im: &[f64; 258],
+) -> bool
+    ensures { λ r.
+        let m = widthTold (now (s .entry)) in
+        ⌜ Tells r (firstTriplets m (tripletsOf (now («y_row» .entry)) (now («y_col» .entry)) (now («y_re» .entry)) (now («y_im» .entry))) ≡ tripletsTold (now (s .entry))) ⌝ }
+{
+    numbers(s, 15, y_row) & numbers(s, 16, y_col) & reals(s, 17, y_re) & reals(s, 18, y_im)
+}
+
+// ---- the whole
+
+// Whether the reading of a text, into the first places of columns of marks, is as the record says.
+fn agrees(text: &[u8], s: &[u8; 600000]) -> bool
     ensures { λ r. ⌜ Tells r (Agrees (now (text .entry)) (now (s .entry))) ⌝ }
 {
-    let m = real::least(vectors::pair(s, 6), 258);
+    let m = width(s);
     let mut kind = [251u8; 258];
     let mut vm_set = [1e300; 258];
     let mut pd = [1e300; 258];
@@ -200,30 +289,15 @@ fn agrees(text: &[u8], s: &[u8]) -> bool
         &mut y_im[..m],
     );
     answered(s, v)
-        & kinds(s, 0, &kind[..m])
-        & reals(s, 1, &vm_set[..m])
-        & reals(s, 2, &pd[..m])
-        & reals(s, 3, &qd[..m])
-        & reals(s, 4, &pg[..m])
-        & reals(s, 5, &qg[..m])
-        & reals(s, 6, &vm_case[..m])
-        & reals(s, 7, &va_case[..m])
-        & numbers(s, 8, &slacks[..m])
-        & reals(s, 9, &va_slacks[..m])
-        & numbers(s, 10, &gen_bus[..m])
-        & reals(s, 11, &qmin[..m])
-        & reals(s, 12, &qmax[..m])
-        & numbers(s, 13, &br_from[..m])
-        & numbers(s, 14, &br_to[..m])
-        & numbers(s, 15, &y_row[..m])
-        & numbers(s, 16, &y_col[..m])
-        & reals(s, 17, &y_re[..m])
-        & reals(s, 18, &y_im[..m])
+        & buses_agree(s, &kind, &vm_set, &pd, &qd, &pg, &qg, &vm_case, &va_case)
+        & slacks_agree(s, &slacks, &va_slacks)
+        & generators_agree(s, &gen_bus, &qmin, &qmax)
+        & branches_agree(s, &br_from, &br_to)
+        & triplets_agree(s, &y_row, &y_col, &y_re, &y_im)
 }
 
 // One text: 0 where its reading agrees, 1 where it differs, 2 where the input has no whole record left.
-fn next(head: &mut [u8], text: &mut [u8], s: &mut [u8]) -> u64
-    requires { ⌜ (length (now head) ≡ 4) × (length (now text) ≡ 65536) × (length (now s) ≡ 600000) ⌝ }
+fn next(head: &mut [u8; 4], text: &mut [u8; 65536], s: &mut [u8; 600000]) -> u64
     ensures { λ r. ⌜ Found 2 r (Agrees (take (pairOf 0 (now (head .exit))) (now (text .exit))) (now (s .exit))) ⌝ }
 {
     if !vectors::read(STDIN_FILENO, head, 4) {
@@ -236,32 +310,20 @@ fn next(head: &mut [u8], text: &mut [u8], s: &mut [u8]) -> u64
     if !vectors::read(STDIN_FILENO, s, vectors::pair(head, 2)) {
         return 2;
     }
-    if agrees(&text[..n], s) {
-        return 0;
-    }
-    1
-}
-
-// Room for any record: a start and rows of two bytes each lead no further than 65,535 + 65,536 * 8.
-fn room() -> [u8; 600000]
-    ensures { λ r. ⌜ (r ≡ replicate 600000 0) × (600000 ≡ length r) ⌝ }
-{
-    [0; 600000]
+    let read: &[u8] = text;
+    vectors::verdict(agrees(&read[..n], s))
 }
 
 fn main() {
-    let mut front = [0u8; 4];
-    let mut middle = io::large_buffer();
-    let mut back = room();
-    let head: &mut [u8] = &mut front;
-    let text: &mut [u8] = &mut middle;
-    let s: &mut [u8] = &mut back;
+    let mut head = [0u8; 4];
+    let mut text = io::large_buffer();
+    let mut s = [0u8; 600000];
     let mut done = 0;
     let mut differing = 0;
-    vectors::read(STDIN_FILENO, head, 2);
-    let count = vectors::pair(head, 0);
+    vectors::read(STDIN_FILENO, &mut head, 2);
+    let count = vectors::pair(&head, 0);
     while done < count {
-        let found = next(head, text, s);
+        let found = next(&mut head, &mut text, &mut s);
         if found == 2 {
             break;
         }

@@ -1,7 +1,7 @@
 -- Words and doubles in a list of bytes, the highest byte first; and what the answer of a test says.
 pub mod Laws
 use mathlib.Core.Path.{_≡_}
-use mathlib.Core.Bool.{Bool, true}
+use mathlib.Core.Bool.{Bool, true, cond}
 use Prim.Native.Nat.{ℕ, _+_, _*_, _≤_}
 use mathlib.Core.List.{List}
 use lib.ListN.{getD}
@@ -19,6 +19,9 @@ doubleAt at s = ofBits binary64 (wordOf at s)
 -- b is true exactly where P holds
 abbrev pub Tells : Bool → Type 0 → Type 0
 Tells b P = (b ≡ true → P) × (P → b ≡ true)
+
+abbrev pub verdictOf : Bool → ℕ
+verdictOf b = cond b 0 1
 
 -- what a turn over the input answers: 0 where it agrees, 1 where it differs, more where no whole record is left
 pub record Found (most r : ℕ) (P : Type 0) : Type 0 where

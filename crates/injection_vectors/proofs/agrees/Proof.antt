@@ -4,9 +4,10 @@ use borrow.Author.Needs.{needs}
 use borrow.Author.Tests.{not-false}
 use Rattle.vectors.specs.Words.{Tells}
 use Rattle.vectors.specs.Words.Laws.{not-told, last-told}
-use Rattle.layout.specs.Table.{Below}
-use Rattle.injections.specs.Injections.{Ybus, GoodTriplets}
-use Rattle.injection_vectors.specs.Told.{ybusTold}
+use Rattle.network.specs.Below.{Below}
+use Rattle.network.specs.Network.{Triplets}
+use Rattle.injections.specs.Injections.{GoodTriplets}
+use Rattle.injection_vectors.specs.Told.{tripletsTold}
 use Rattle.injection_vectors.proofs.Agreement.{below-told, good}
 use Rattle.injection_vectors.proofs.agrees.Statement.{statement}
 use Rattle.injection_vectors.proofs.agrees.Tie as tie
@@ -21,21 +22,21 @@ start-of c = entry (c .before .before .before)
 
 -- ---- the rows and columns that were compared are those told
 
-rows-told : (c : tie.After-below) → let a = entry c .args in Tells (c .below .result) (Below (a .n) (ybusTold (a .s .now) (a .m) .row))
-rows-told c = let s = entry c in below-told (s .args .n) (s .args .row .now) _ (c .below .result) (ap (λ (y : Ybus). y .row) (s .pre .1)) (c .below .ensures)
+rows-told : (c : tie.After-below) → let a = entry c .args in Tells (c .below .result) (Below (a .n) (tripletsTold (a .s .now) (a .m) .row))
+rows-told c = let s = entry c in below-told (s .args .n) (s .args .row .now) _ (c .below .result) (ap (λ (y : Triplets). y .row) (s .pre .1)) (c .below .ensures)
 
-cols-told : (c : tie.After-below2) → let a = entry (c .before .before) .args in Tells (c .below2 .result) (Below (a .n) (ybusTold (a .s .now) (a .m) .col))
+cols-told : (c : tie.After-below2) → let a = entry (c .before .before) .args in Tells (c .below2 .result) (Below (a .n) (tripletsTold (a .s .now) (a .m) .col))
 cols-told c =
     let s = entry (c .before .before) in
-    below-told (s .args .n) (s .args .col .now) _ (c .below2 .result) (ap (λ (y : Ybus). y .col) (s .pre .1)) (c .below2 .ensures)
+    below-told (s .args .n) (s .args .col .now) _ (c .below2 .result) (ap (λ (y : Triplets). y .col) (s .pre .1)) (c .below2 .ensures)
 
-rows-below : (c : tie.Else2) → let a = start-of c .args in Below (a .n) (ybusTold (a .s .now) (a .m) .row)
+rows-below : (c : tie.Else2) → let a = start-of c .args in Below (a .n) (tripletsTold (a .s .now) (a .m) .row)
 rows-below c = rows-told (c .before .before .before) .0 (not-false _ (c .before .before .if1 .left))
 
-cols-below : (c : tie.Else2) → let a = start-of c .args in Below (a .n) (ybusTold (a .s .now) (a .m) .col)
+cols-below : (c : tie.Else2) → let a = start-of c .args in Below (a .n) (tripletsTold (a .s .now) (a .m) .col)
 cols-below c = cols-told (c .before) .0 (not-false _ (c .if2 .left))
 
-checked : (c : tie.Else2) → let a = start-of c .args in GoodTriplets (a .n) (ybusTold (a .s .now) (a .m))
+checked : (c : tie.Else2) → let a = start-of c .args in GoodTriplets (a .n) (tripletsTold (a .s .now) (a .m))
 checked c = good _ _ _ (start-of c .pre .0 .few) (rows-below c) (cols-below c)
 
 -- ---- the needs

@@ -1,15 +1,14 @@
--- `injection_vectors::next` meets its contract: only the last two ways tell of a point, as `point` found it. Assumes nothing.
+-- `injection_vectors::next` meets its contract: only the last way tells of a point, as `point` found it. Assumes nothing.
 use native.Mathlib.Omega.{arith}
 use borrow.Author.Needs.{needs}
-use Rattle.real.specs.Tests.{true-false}
-use Rattle.vectors.specs.Words.Laws.{found-agreed, found-differed, no-record}
+use Rattle.vectors.specs.Words.Laws.{found-told, no-record}
 use Rattle.vectors.specs.Sizes.{square}
 use Rattle.injection_vectors.proofs.next.Statement.{statement}
 use Rattle.injection_vectors.proofs.next.Tie as tie
 
 -- where the sizes are found small enough
-abbrev small-of : tie.After-point-arg → tie.Else4
-small-of c = c .before .before .before .before .before .before
+abbrev small-of : tie.After-point-arg2 → tie.Else4
+small-of c = c .before .before .before .before .before
 
 point-requires : tie.Need-point-requires
 point-requires c κs =
@@ -19,33 +18,22 @@ point-requires c κs =
 
 returns-6 : tie.Need-returns-6
 returns-6 c =
-    let d = c .before .before .before .before .before .before .before .before .before .before .before in
-    let m = d .before .before in
-    let n = m .before .before in
-    found-agreed (rw (← n .word .ensures, ← m .word2 .ensures, ← d .word3 .ensures) (c .before .point .ensures .0 (c .if6 .taken)))
-
-returns-7 : tie.Need-returns-7
-returns-7 c =
-    let d = c .before .before .before .before .before .before .before .before .before .before .before in
-    let m = d .before .before in
-    let n = m .before .before in
-    found-differed (omega arith) (λ a. true-false (c .before .point .ensures .1 (rw (n .word .ensures, m .word2 .ensures, d .word3 .ensures) a)) (c .if6 .left))
+    let d = c .before .before .before .before .before .before .before .before .before .before in
+    let m = d .before .before .before in
+    let n = m .before .before .before in
+    found-told _ (omega arith) (rw (n .word .ensures, m .word2 .ensures, d .word3 .ensures) at (c .before .point .ensures)) (c .verdict .ensures)
 
 pub next-spec : {M : Type 1} → statement M
 next-spec =
     tie.close
     (tie.spec
     (λ c κs. search needs)
-    (λ c. search needs)
     (λ c. no-record (omega arith) (omega arith))
     (λ c κs. search needs)
     (λ c κs. search needs)
     (λ c κs. search needs)
-    (λ c. search needs)
     (λ c. no-record (omega arith) (omega arith))
-    (λ c. search needs)
     (λ c. no-record (omega arith) (omega arith))
-    (λ c. search needs)
     (λ c. no-record (omega arith) (omega arith))
     (λ c. search needs)
     (λ c. search needs)
@@ -54,13 +42,7 @@ next-spec =
     (λ c. omega (arith, square _ (c .before .if4 .left)))
     (λ c. omega (arith, square _ (c .before .if4 .left)))
     (λ c κs. omega (arith, square _ (c .before .if4 .left)))
-    (λ c. search needs)
-    (λ c. search needs)
     (λ c. no-record (omega arith) (omega arith))
     point-requires
-    (λ c. search needs)
-    (λ c. search needs)
-    returns-6
-    (λ c. search needs)
-    (λ c. search needs)
-    returns-7)
+    (λ c κs. search needs)
+    returns-6)

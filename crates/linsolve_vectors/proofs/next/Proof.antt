@@ -1,8 +1,7 @@
--- `linsolve_vectors::next` meets its contract: only the last two ways tell of a system, as `agrees` found it. Assumes nothing.
+-- `linsolve_vectors::next` meets its contract: only the last way tells of a system, as `agrees` found it. Assumes nothing.
 use native.Mathlib.Omega.{arith}
 use borrow.Author.Needs.{needs}
-use Rattle.real.specs.Tests.{true-false}
-use Rattle.vectors.specs.Words.Laws.{found-agreed, found-differed, no-record}
+use Rattle.vectors.specs.Words.Laws.{found-told, no-record}
 use Rattle.linsolve_vectors.proofs.next.Statement.{statement}
 use Rattle.linsolve_vectors.proofs.next.Tie as tie
 
@@ -18,34 +17,21 @@ returns-3 c = no-record (omega arith) (omega arith)
 returns-4 : tie.Need-returns-4
 returns-4 c =
     let word = c .before .before .before .before .before .before .before .before .before .before .before .before .word .ensures in
-    found-agreed (rw (← word, ← (c .before .before .word2 .ensures)) (c .before .agrees .ensures .0 (c .if4 .taken)))
-
-returns-5 : tie.Need-returns-5
-returns-5 c =
-    let word = c .before .before .before .before .before .before .before .before .before .before .before .before .word .ensures in
-    found-differed (omega arith) (λ a. true-false (c .before .agrees .ensures .1 (rw (word, c .before .before .word2 .ensures) a)) (c .if4 .left))
+    found-told _ (omega arith) (rw (word, c .before .before .word2 .ensures) at (c .before .agrees .ensures)) (c .verdict .ensures)
 
 pub next-spec : {M : Type 1} → statement M
 next-spec =
     tie.close
     (tie.spec
     (λ c κs. search needs)
-    (λ c. search needs)
     returns
     (λ c κs. search needs)
-    (λ c. search needs)
     returns-2
     (λ c κs. search needs)
     (λ c. search needs)
     (λ c κs. search needs)
-    (λ c. search needs)
-    (λ c. search needs)
     returns-3
     (λ c κs. search needs)
     (λ c κs. search needs)
-    (λ c. search needs)
-    (λ c. search needs)
-    returns-4
-    (λ c. search needs)
-    (λ c. search needs)
-    returns-5)
+    (λ c κs. search needs)
+    returns-4)

@@ -1,19 +1,18 @@
--- `text_vectors::answered` meets its contract: a refusal is told by its number and place, a good answer by its tables. Assumes nothing.
+-- `text_vectors::answered` meets its contract: a refusal is told by its number and place, a good answer by what it holds. Assumes nothing.
 use borrow.Author.Needs.{needs}
 use Rattle.text_vectors.proofs.Papers.{refusal-paper, refusal-number}
 use Rattle.text_vectors.proofs.answered.Statement.{statement}
 use Rattle.text_vectors.proofs.answered.Tie as tie
 
 refused-requires : tie.Need-refused-requires
-refused-requires c κs = (
-  rw (c .before .number .ensures) (refusal-number (c .before .before .before .before .args .v) (c .before .before .match .keys2)),
-  c .before .before .before .before .pre,
-)
+refused-requires c κs =
+    let v = c .before in
+    rw (v .number .ensures) (refusal-number (v .before .before .args .v) (v .before .match .keys2))
 
 returns : tie.Need-returns
 returns c =
     let v = c .before .before in
-    rw (v .number .ensures, c .before .place .ensures, refusal-paper (v .before .before .before .args .v) (v .before .match .keys2)) at (c .refused .ensures)
+    rw (v .number .ensures, c .before .place .ensures, refusal-paper (v .before .before .args .v) (v .before .match .keys2)) at (c .refused .ensures)
 
 returns-2 : tie.Need-returns-2
 returns-2 c = rw (c .before .before .v .given .1) (c .good2 .ensures)

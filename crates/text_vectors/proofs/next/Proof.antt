@@ -1,10 +1,9 @@
--- `text_vectors::next` meets its contract: only the last two ways tell of a text, as `agrees` found it. Assumes nothing.
+-- `text_vectors::next` meets its contract: only the last way tells of a text, as `agrees` found it. Assumes nothing.
 use mathlib.Core.Path.{sym}
 use native.Mathlib.Omega.{arith}
 use borrow.Author.Needs.{needs}
 use lib.Seq.{length-take-le}
-use Rattle.real.specs.Tests.{true-false}
-use Rattle.vectors.specs.Words.Laws.{found-agreed, found-differed, no-record}
+use Rattle.vectors.specs.Words.Laws.{found-told, no-record}
 use Rattle.text_vectors.proofs.next.Statement.{statement}
 use Rattle.text_vectors.proofs.next.Tie as tie
 
@@ -22,40 +21,22 @@ slice-aggregate-agrees c = sym (length-take-le _ _ (omega arith))
 
 returns-4 : tie.Need-returns-4
 returns-4 c =
-    let pair = c .before .before .before .before .before .before .before .before .before .before .before .before .before .before .before .before .pair .ensures .0 in
-    found-agreed (rw pair at (c .before .agrees .ensures .0 (c .if4 .taken)))
-
-returns-5 : tie.Need-returns-5
-returns-5 c =
-    let pair = c .before .before .before .before .before .before .before .before .before .before .before .before .before .before .before .before .pair .ensures .0 in
-    found-differed (omega arith) (λ a. true-false ((rw pair at (c .before .agrees .ensures .1)) a) (c .if4 .left))
+    let pair = c .before .before .before .before .before .before .before .before .before .before .before .before .before .before .before .pair .ensures .0 in
+    found-told _ (omega arith) (rw pair at (c .before .agrees .ensures)) (c .verdict .ensures)
 
 pub next-spec : {M : Type 1} → statement M
 next-spec =
     tie.close
     (tie.spec
     (λ c κs. search needs)
-    (λ c. search needs)
     returns
     (λ c κs. search needs)
     (λ c κs. search needs)
-    (λ c. search needs)
-    (λ c. search needs)
     returns-2
     (λ c κs. search needs)
     (λ c κs. search needs)
-    (λ c. search needs)
-    (λ c. search needs)
-    (λ c. search needs)
     returns-3
-    (λ c. search needs)
     slice-aggregate-agrees
     (λ c κs. search needs)
-    (λ c. search needs)
-    (λ c. search needs)
-    (λ c. search needs)
-    returns-4
-    (λ c. search needs)
-    (λ c. search needs)
-    (λ c. search needs)
-    returns-5)
+    (λ c κs. search needs)
+    returns-4)

@@ -1,34 +1,36 @@
 -- `text_vectors::numbers` meets its contract. The invariant: every place passed holds what is told. Assumes nothing.
-use mathlib.Core.Path.{_≡_, refl, sym, _∙_}
+use mathlib.Core.Path.{_≡_, sym, _∙_}
 use Prim.Native.Nat.{ℕ, _-_, _≤_, _<_}
 use native.Mathlib.Omega.{arith}
 use borrow.Author.Count.{below-more}
-use lib.ListN.{length, getD}
-use Rattle.real.specs.Each.Laws.{is-each}
+use lib.ListN.{getD}
 use Rattle.vectors.specs.Words.Laws.{never-told}
 use Rattle.text_vectors.specs.Told.{wordTold}
-use Rattle.text_vectors.proofs.Telling.{told-at}
+use Rattle.text_vectors.proofs.Telling.{told-at, places-told}
 use Rattle.text_vectors.proofs.numbers.Statement.{statement}
 use Rattle.text_vectors.proofs.numbers.Tie as tie
 
 abbrev Inv-loop : tie.InvT-loop
-Inv-loop s j col i₀ i = (i ≤ length col) × ((k : ℕ) → k < i → getD col k 0 ≡ wordTold s j k)
+Inv-loop s j own col n i₀ i = (i ≤ n) × ((k : ℕ) → k < i → getD col k 0 ≡ wordTold s j k)
 
 abbrev μ-loop : tie.MeasureT-loop
-μ-loop s j col i₀ i = length col - i
+μ-loop s j own col n i₀ i = n - i
 
 loop-holds : tie.Need-loop-holds Inv-loop μ-loop
 loop-holds c = (omega arith, λ k h. absurd (omega arith))
 
 returns : tie.Need-returns Inv-loop μ-loop
-returns c = never-told (λ e. c .if1 .taken (told-at 0 _ _ e _ (omega arith) ∙ sym (c .before .told .ensures)))
+returns c =
+    let width = c .before .before .before .before .before .width .ensures .0 in
+    never-told (λ e. c .if1 .taken (told-at 0 width _ _ e _ (omega arith) ∙ sym (c .before .told .ensures)))
 
 loop-again : tie.Need-loop-again Inv-loop μ-loop
-loop-again c = let s = c .before .before .before .before in
+loop-again c =
+    let s = c .before .before .before .before in
     (omega arith, below-more _ _ (s .loop .inv .1) (c .if1 .left ∙ c .before .told .ensures))
 
 returns-2 : tie.Need-returns-2 Inv-loop μ-loop
-returns-2 c = (λ e. is-each _ _ 0 _ refl (λ i h. c .before .loop .inv .1 i (omega arith)), λ e. refl)
+returns-2 c = places-told 0 (c .before .before .width .ensures .0) _ _ (omega arith) (λ i h. c .before .loop .inv .1 i (omega arith))
 
 pub numbers-spec : {M : Type 1} → statement M
 numbers-spec =
@@ -36,6 +38,7 @@ numbers-spec =
     (tie.spec
     Inv-loop
     μ-loop
+    (λ c κs. omega arith)
     loop-holds
     (λ c. omega arith)
     (λ c. omega arith)

@@ -16,9 +16,9 @@ returns-2 c =
 
 returns-3 : tie.Need-returns-3
 returns-3 c =
-    let if1 = c .before .before in
+    let if1 = c .before .before .before in
     let pair = if1 .before .pair .ensures .0 in
-    rw (c .pair2 .ensures .0) (place-told _ _ _ _ _ (if1 .before .before .before .pre .0) (c .before .if2 .left) (sym (if1 .if1 .left) ∙ pair))
+    rw (c .pair2 .ensures .0) (place-told _ _ _ _ _ (if1 .before .before .before .pre) (c .before .before .if2 .left) (sym (if1 .if1 .left) ∙ pair))
 
 pub refused-spec : {M : Type 1} → statement M
 refused-spec = tie.close (tie.spec (λ c κs. search needs) returns returns-2 (λ c κs. search needs) returns-3)

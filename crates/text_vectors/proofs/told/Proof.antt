@@ -7,8 +7,8 @@ use Rattle.text_vectors.proofs.told.Tie as tie
 returns : tie.Need-returns
 unfolding wordTold
 returns c =
-    let p = c .before in
-    rw (← (p .pair .ensures .0), ← (p .before .before .rows .ensures .0), ← (p .before .least .ensures .0)) (c .word .ensures)
+    let least = c .before .before .before .before in
+    rw (← (c .before .pair .ensures .0), ← (least .before .rows .ensures .0), ← (least .least .ensures .0)) (c .word .ensures)
 
 pub told-spec : {M : Type 1} → statement M
 told-spec =
