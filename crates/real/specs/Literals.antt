@@ -26,7 +26,7 @@ half = lit 0x3fe0_0000_0000_0000
 abbrev pub tolerance : Float
 tolerance = lit 0x3e45_798e_e230_8c3a
 
--- 1e-6: the margin of the limit tests and of the way back
+-- 1e-6: the margin of the limit tests and of the test by which a bus is reverted
 abbrev pub margin : Float
 margin = lit 0x3eb0_c6f7_a0b5_ed8d
 

@@ -11,7 +11,7 @@ ghost use Rattle.real.specs.Norm.{normOf};
 // Below this a mismatch counts as solved.
 pub const TOL: f64 = 1e-8;
 
-// The margin of the limit tests, and that of the way back.
+// The margin of the limit tests, and that of the test by which a bus is reverted.
 pub const Q_TOL: f64 = 1e-6;
 
 pub const V_BACK: f64 = 1e-6;

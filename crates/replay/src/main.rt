@@ -24,7 +24,12 @@ fn same(a: &[u8], b: &[u8]) -> bool
 }
 
 // Whether the report of a text is the answer.
-fn agrees(text: &[u8], answer: &[u8], out: &mut [u8; 4096], space: &mut [f64; 6144]) -> bool
+fn agrees(
+    text: &[u8],
+    answer: &[u8],
+    out: &mut [u8; report::BUFFER],
+    space: &mut [f64; 6144],
+) -> bool
     ensures { λ r. ⌜ Tells r (bytesOf (now (text .entry)) (now (space .entry)) ≡ now (answer .entry)) ⌝ }
 {
     let k = report::report(text, out, space);
@@ -38,7 +43,7 @@ fn next(
     head: &mut [u8],
     text: &mut [u8],
     answer: &mut [u8],
-    out: &mut [u8; 4096],
+    out: &mut [u8; report::BUFFER],
     space: &mut [f64; 6144],
 ) -> u64
     requires { ⌜ (length (now head) ≡ 4) × (length (now text) ≡ 65536) × (length (now answer) ≡ 65536) ⌝ }

@@ -92,28 +92,11 @@ returns-2 c =
 pub answer-spec : {M : Type 1} → statement M
 answer-spec =
     tie.close
-    (tie.spec
+    (tie.spec (λ c. search needs) (λ c. search needs) (λ c. search needs) (λ c. search needs) (λ c. search needs) (λ c. search needs)
     (λ c. search needs) (λ c. search needs) (λ c. search needs) (λ c. search needs) (λ c. search needs) (λ c. search needs) (λ c. search needs)
-    (λ c. search needs) (λ c. search needs) (λ c. search needs) (λ c. search needs) (λ c. search needs) (λ c. search needs) (λ c. search needs)
-    (λ c. search needs) (λ c. search needs) (λ c. search needs) (λ c. search needs) (λ c. search needs)
-    (λ c κs. search needs) (λ c. search needs) returns
-    slice-aggregate-solve-rows
-    slice-aggregate-solve-rows-2
-    slice-aggregate-solve-rows-3
-    slice-aggregate-solve-rows-4
-    slice-aggregate-solve-rows-5
-    slice-aggregate-solve-rows-6
-    slice-aggregate-solve-rows-7
-    slice-aggregate-solve-rows-8
-    slice-aggregate-solve-rows-9
-    slice-aggregate-solve-rows-10
-    slice-aggregate-solve-rows-11
-    slice-aggregate-solve-rows-12
-    slice-aggregate-solve-rows-13
-    slice-aggregate-solve-rows-14
-    slice-aggregate-solve-rows-15
-    slice-aggregate-solve-rows-16
-    slice-aggregate-solve-rows-17
-    slice-aggregate-solve-rows-18
-    slice-aggregate-solve-rows-19
-    solve-rows-requires (λ c. search needs) returns-2)
+    (λ c. search needs) (λ c. search needs) (λ c. search needs) (λ c. search needs) (λ c. search needs) (λ c. search needs) (λ c κs. search needs)
+    (λ c. search needs) returns slice-aggregate-solve-rows slice-aggregate-solve-rows-2 slice-aggregate-solve-rows-3 slice-aggregate-solve-rows-4
+    slice-aggregate-solve-rows-5 slice-aggregate-solve-rows-6 slice-aggregate-solve-rows-7 slice-aggregate-solve-rows-8 slice-aggregate-solve-rows-9
+    slice-aggregate-solve-rows-10 slice-aggregate-solve-rows-11 slice-aggregate-solve-rows-12 slice-aggregate-solve-rows-13
+    slice-aggregate-solve-rows-14 slice-aggregate-solve-rows-15 slice-aggregate-solve-rows-16 slice-aggregate-solve-rows-17
+    slice-aggregate-solve-rows-18 slice-aggregate-solve-rows-19 solve-rows-requires (λ c. search needs) returns-2)

@@ -12,11 +12,11 @@ returns c = c .before .before .before .before .before .before .before .before .b
 pub solve-rows-spec : {M : Type 1} → statement M
 solve-rows-spec =
     tie.close
-    (tie.spec (λ c. sym (length-take-le _ _ (omega arith))) (λ c. sym (length-take-le _ _ (omega arith))) (λ c. sym (length-take-le _ _ (omega arith)))
+    (tie.spec (λ c. sym (length-take-le _ _ (omega arith))) (λ c. sym (length-take-le _ _ (omega arith)))
     (λ c. sym (length-take-le _ _ (omega arith))) (λ c. sym (length-take-le _ _ (omega arith))) (λ c. sym (length-take-le _ _ (omega arith)))
     (λ c. sym (length-take-le _ _ (omega arith))) (λ c. sym (length-take-le _ _ (omega arith))) (λ c. sym (length-take-le _ _ (omega arith)))
     (λ c. sym (length-take-le _ _ (omega arith))) (λ c. sym (length-take-le _ _ (omega arith))) (λ c. sym (length-take-le _ _ (omega arith)))
     (λ c. sym (length-take-le _ _ (omega arith))) (λ c. sym (length-take-le _ _ (omega arith))) (λ c. sym (length-take-le _ _ (omega arith)))
     (λ c. sym (length-take-le _ _ (omega arith))) (λ c. sym (length-take-le _ _ (omega arith))) (λ c. sym (length-take-le _ _ (omega arith)))
-    (λ c. sym (length-take-le _ _ (omega arith)))
-    (λ c κs. search needs) (λ c. search needs) (λ c. search needs) (λ c. search needs) (λ c. search needs) (λ c. search needs) (λ c. search needs) returns)
+    (λ c. sym (length-take-le _ _ (omega arith))) (λ c. sym (length-take-le _ _ (omega arith))) (λ c κs. search needs) (λ c. search needs)
+    (λ c. search needs) (λ c. search needs) (λ c. search needs) (λ c. search needs) (λ c. search needs) returns)

@@ -80,27 +80,7 @@ returns-6 c = rw (after-y (c .before .before .before), ← c .mode .ensures)
 pub body-spec : {M : Type 1} → statement M
 body-spec =
     tie.close
-    (tie.spec
-    (λ c κs. search needs)
-    (λ c. search needs)
-    (λ c κs. search needs)
-    returns
-    (λ c κs. search needs)
-    (λ c. search needs)
-    (λ c κs. search needs)
-    returns-2
-    (λ c κs. search needs)
-    (λ c. search needs)
-    (λ c κs. search needs)
-    returns-3
-    (λ c κs. search needs)
-    (λ c. search needs)
-    (λ c κs. search needs)
-    returns-4
-    (λ c κs. search needs)
-    (λ c. search needs)
-    (λ c κs. search needs)
-    returns-5
-    (λ c. search needs)
-    (λ c κs. search needs)
-    returns-6)
+    (tie.spec (λ c κs. search needs) (λ c. search needs) (λ c κs. search needs) returns (λ c κs. search needs) (λ c. search needs)
+    (λ c κs. search needs) returns-2 (λ c κs. search needs) (λ c. search needs) (λ c κs. search needs) returns-3 (λ c κs. search needs)
+    (λ c. search needs) (λ c κs. search needs) returns-4 (λ c κs. search needs) (λ c. search needs) (λ c κs. search needs) returns-5
+    (λ c. search needs) (λ c κs. search needs) returns-6)

@@ -40,14 +40,4 @@ returns-5 c =
     (c .body .ensures)
 
 pub check-text-spec : {M : Type 1} → statement M
-check-text-spec =
-    tie.close
-    (tie.spec
-    returns
-    returns-2
-    (λ c κs. search needs)
-    returns-3
-    (λ c κs. search needs)
-    returns-4
-    body-requires
-    returns-5)
+check-text-spec = tie.close (tie.spec returns returns-2 (λ c κs. search needs) returns-3 (λ c κs. search needs) returns-4 body-requires returns-5)

@@ -21,5 +21,4 @@ returns-3 c =
     rw (← v .before .before .check-text .ensures, v .v .given .1, ← f .fits2 .ensures, c .if1 .left)
 
 pub judge-spec : {M : Type 1} → statement M
-judge-spec =
-    tie.close (tie.spec (λ c κs. search needs) (λ c. search needs) returns (λ c κs. search needs) returns-2 returns-3)
+judge-spec = tie.close (tie.spec (λ c κs. search needs) (λ c. search needs) returns (λ c κs. search needs) returns-2 returns-3)

@@ -123,21 +123,9 @@ returns-2 c =
 pub read-case-spec : {M : Type 1} → statement M
 read-case-spec =
     tie.close
-    (tie.spec
-    (λ c κs. search needs)
-    (λ c κs. search needs)
-    (λ c κs. search needs)
-    (λ c κs. search needs)
-    (λ c κs. search needs)
-    (λ c κs. search needs)
-    (λ c κs. search needs)
-    (λ c. search needs)
-    returns
-    section-places-requires
-    fill-buses-requires
-    fill-sources-requires
-    fill-lines-requires
-    (λ c. buses-of (sources-of (lines-of c .before) .before) .fill-buses .kept .1 .1 .1 .0)
+    (tie.spec (λ c κs. search needs) (λ c κs. search needs) (λ c κs. search needs) (λ c κs. search needs) (λ c κs. search needs)
+    (λ c κs. search needs) (λ c κs. search needs) (λ c. search needs) returns section-places-requires fill-buses-requires fill-sources-requires
+    fill-lines-requires (λ c. buses-of (sources-of (lines-of c .before) .before) .fill-buses .kept .1 .1 .1 .0)
     (λ c. buses-of (sources-of (lines-of c .before) .before) .fill-buses .kept .1 .1 .1 .1 .0)
     (λ c. buses-of (sources-of (lines-of c .before) .before) .fill-buses .kept .1 .1 .1 .1 .1 .0)
     (λ c. buses-of (sources-of (lines-of c .before) .before) .fill-buses .kept .1 .1 .1 .1 .1 .1 .0)
@@ -149,11 +137,7 @@ read-case-spec =
     (λ c. sources-of (lines-of c .before) .fill-sources .kept .1 .1 .1 .1 .1 .0)
     (λ c. sources-of (lines-of c .before) .fill-sources .kept .1 .1 .1 .1 .1 .1 .0)
     (λ c. sources-of (lines-of c .before) .fill-sources .kept .1 .1 .1 .1 .1 .1 .1 .0)
-    (λ c. sources-of (lines-of c .before) .fill-sources .kept .1 .1 .1 .1 .1 .1 .1 .1 .0)
-    (λ c. lines-of c .fill-lines .kept .1 .1 .1 .1 .0)
-    (λ c. lines-of c .fill-lines .kept .1 .1 .1 .1 .1 .0)
-    (λ c. lines-of c .fill-lines .kept .1 .1 .1 .1 .1 .1 .0)
-    (λ c. lines-of c .fill-lines .kept .1 .1 .1 .1 .1 .1 .1 .0)
-    (λ c. lines-of c .fill-lines .kept .1 .1 .1 .1 .1 .1 .1 .1 .0)
-    (λ c. lines-of c .fill-lines .kept .1 .1 .1 .1 .1 .1 .1 .1 .1 .0)
-    returns-2)
+    (λ c. sources-of (lines-of c .before) .fill-sources .kept .1 .1 .1 .1 .1 .1 .1 .1 .0) (λ c. lines-of c .fill-lines .kept .1 .1 .1 .1 .0)
+    (λ c. lines-of c .fill-lines .kept .1 .1 .1 .1 .1 .0) (λ c. lines-of c .fill-lines .kept .1 .1 .1 .1 .1 .1 .0)
+    (λ c. lines-of c .fill-lines .kept .1 .1 .1 .1 .1 .1 .1 .0) (λ c. lines-of c .fill-lines .kept .1 .1 .1 .1 .1 .1 .1 .1 .0)
+    (λ c. lines-of c .fill-lines .kept .1 .1 .1 .1 .1 .1 .1 .1 .1 .0) returns-2)

@@ -9,5 +9,4 @@ returns : tie.Need-returns
 returns c = c .number-in .ensures ∙ ap numberIn (c .before .read-bus .ensures ∙ ap busOf (c .before .before .piece .ensures .2))
 
 pub number-at-spec : {M : Type 1} → statement M
-number-at-spec =
-    tie.close (tie.spec (λ c. search needs) (λ c κs. search needs) (λ c κs. search needs) (λ c κs. search needs) returns)
+number-at-spec = tie.close (tie.spec (λ c. search needs) (λ c κs. search needs) (λ c κs. search needs) (λ c κs. search needs) returns)

@@ -46,14 +46,5 @@ loop-again c =
 pub piece-spec : {M : Type 1} → statement M
 piece-spec =
     tie.close
-    (tie.spec
-    Inv-loop
-    μ-loop
-    loop-holds
-    (λ c κs. search needs)
-    returns
-    returns-2
-    (λ c. search needs)
-    (λ c. search needs)
-    (λ c. search needs)
+    (tie.spec Inv-loop μ-loop loop-holds (λ c κs. search needs) returns returns-2 (λ c. search needs) (λ c. search needs) (λ c. search needs)
     loop-again)

@@ -9,5 +9,4 @@ returns : tie.Need-returns
 returns c = c .real-in .ensures ∙ ap realIn (c .before .real-or-nan .ensures ∙ ap orNanOf (c .before .before .piece .ensures .2))
 
 pub real-at-spec : {M : Type 1} → statement M
-real-at-spec =
-    tie.close (tie.spec (λ c. search needs) (λ c κs. search needs) (λ c κs. search needs) (λ c κs. search needs) returns)
+real-at-spec = tie.close (tie.spec (λ c. search needs) (λ c κs. search needs) (λ c κs. search needs) (λ c κs. search needs) returns)

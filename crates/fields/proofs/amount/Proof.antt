@@ -77,18 +77,5 @@ returns-5 c =
 pub amount-spec : {M : Type 1} → statement M
 amount-spec =
     tie.close
-    (tie.spec
-    returns
-    (λ c κs. search needs)
-    returns-2
-    whole-requires
-    (λ c. search needs)
-    (λ c. search needs)
-    returns-3
-    whole-requires-2
-    (λ c. search needs)
-    (λ c. search needs)
-    returns-4
-    (λ c. search needs)
-    scaled-requires
-    returns-5)
+    (tie.spec returns (λ c κs. search needs) returns-2 whole-requires (λ c. search needs) (λ c. search needs) returns-3 whole-requires-2
+    (λ c. search needs) (λ c. search needs) returns-4 (λ c. search needs) scaled-requires returns-5)

@@ -37,15 +37,4 @@ returns-2 c =
     found (a .s .now) (a .a) (a .e) (a .x) (omega arith) (omega arith) (c .before .loop .i) (omega (arith, ap length (upto-end (a .s .now) (c .before .loop .i) (a .e) (a .x) (omega arith))))
 
 pub find-spec : {M : Type 1} → statement M
-find-spec =
-    tie.close
-    (tie.spec
-    Inv-loop
-    μ-loop
-    loop-holds
-    (λ c. omega arith)
-    returns
-    (λ c. omega arith)
-    (λ c. omega arith)
-    loop-again
-    returns-2)
+find-spec = tie.close (tie.spec Inv-loop μ-loop loop-holds (λ c. omega arith) returns (λ c. omega arith) (λ c. omega arith) loop-again returns-2)

@@ -55,14 +55,5 @@ returns-5 c =
 pub read-bus-spec : {M : Type 1} → statement M
 read-bus-spec =
     tie.close
-    (tie.spec
-    returns
-    (λ c. search needs)
-    returns-2
-    (λ c. search needs)
-    (λ c. search needs)
-    returns-3
-    whole-requires
-    returns-4
-    whole-requires-2
+    (tie.spec returns (λ c. search needs) returns-2 (λ c. search needs) (λ c. search needs) returns-3 whole-requires returns-4 whole-requires-2
     returns-5)

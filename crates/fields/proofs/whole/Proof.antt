@@ -66,17 +66,5 @@ returns-3 c =
 pub whole-spec : {M : Type 1} → statement M
 whole-spec =
     tie.close
-    (tie.spec
-    Inv-loop
-    μ-loop
-    loop-holds
-    (λ c. omega arith)
-    returns
-    returns-2
-    mul-m
-    (λ c. omega arith)
-    add-m
-    (λ c. omega arith)
-    (λ c. omega arith)
-    loop-again
-    returns-3)
+    (tie.spec Inv-loop μ-loop loop-holds (λ c. omega arith) returns returns-2 mul-m (λ c. omega arith) add-m (λ c. omega arith) (λ c. omega arith)
+    loop-again returns-3)

@@ -71,12 +71,4 @@ returns-4 c =
 pub agrees-spec : {M : Type 1} → statement M
 agrees-spec =
     tie.close
-    (tie.spec
-    (λ c κs. search needs)
-    returns
-    (λ c κs. search needs)
-    returns-2
-    injections-agree-requires
-    returns-3
-    jacobian-agrees-requires
-    returns-4)
+    (tie.spec (λ c κs. search needs) returns (λ c κs. search needs) returns-2 injections-agree-requires returns-3 jacobian-agrees-requires returns-4)

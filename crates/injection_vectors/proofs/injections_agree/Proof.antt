@@ -16,16 +16,5 @@ returns c =
 pub injections-agree-spec : {M : Type 1} → statement M
 injections-agree-spec =
     tie.close
-    (tie.spec
-    (λ c. search needs)
-    (λ c κs. search needs)
-    (λ c. search needs)
-    (λ c. search needs)
-    (λ c. search needs)
-    (λ c κs. search needs)
-    ac-injections-requires
-    (λ c. search needs)
-    (λ c. search needs)
-    (λ c. search needs)
-    (λ c κs. search needs)
-    returns)
+    (tie.spec (λ c. search needs) (λ c κs. search needs) (λ c. search needs) (λ c. search needs) (λ c. search needs) (λ c κs. search needs)
+    ac-injections-requires (λ c. search needs) (λ c. search needs) (λ c. search needs) (λ c κs. search needs) returns)

@@ -10,11 +10,4 @@ returns c = entries-told _ _ _ _ _ _ _ zeros (c .before .before .before .before 
 pub jacobian-agrees-spec : {M : Type 1} → statement M
 jacobian-agrees-spec =
     tie.close
-    (tie.spec
-    (λ c. search needs)
-    (λ c κs. search needs)
-    (λ c. search needs)
-    (λ c. search needs)
-    (λ c. search needs)
-    (λ c κs. search needs)
-    returns)
+    (tie.spec (λ c. search needs) (λ c κs. search needs) (λ c. search needs) (λ c. search needs) (λ c. search needs) (λ c κs. search needs) returns)

@@ -26,23 +26,9 @@ returns-6 c =
 pub next-spec : {M : Type 1} → statement M
 next-spec =
     tie.close
-    (tie.spec
-    (λ c κs. search needs)
-    (λ c. no-record (omega arith) (omega arith))
-    (λ c κs. search needs)
-    (λ c κs. search needs)
-    (λ c κs. search needs)
-    (λ c. no-record (omega arith) (omega arith))
-    (λ c. no-record (omega arith) (omega arith))
-    (λ c. no-record (omega arith) (omega arith))
-    (λ c. search needs)
-    (λ c. search needs)
-    (λ c. search needs)
-    (λ c. omega (arith, square _ (c .before .if4 .left)))
-    (λ c. omega (arith, square _ (c .before .if4 .left)))
-    (λ c. omega (arith, square _ (c .before .if4 .left)))
-    (λ c κs. omega (arith, square _ (c .before .if4 .left)))
-    (λ c. no-record (omega arith) (omega arith))
-    point-requires
-    (λ c κs. search needs)
+    (tie.spec (λ c κs. search needs) (λ c. no-record (omega arith) (omega arith)) (λ c κs. search needs) (λ c κs. search needs) (λ c κs. search needs)
+    (λ c. no-record (omega arith) (omega arith)) (λ c. no-record (omega arith) (omega arith)) (λ c. no-record (omega arith) (omega arith))
+    (λ c. search needs) (λ c. search needs) (λ c. search needs) (λ c. omega (arith, square _ (c .before .if4 .left)))
+    (λ c. omega (arith, square _ (c .before .if4 .left))) (λ c. omega (arith, square _ (c .before .if4 .left)))
+    (λ c κs. omega (arith, square _ (c .before .if4 .left))) (λ c. no-record (omega arith) (omega arith)) point-requires (λ c κs. search needs)
     returns-6)

@@ -15,14 +15,5 @@ told-agrees-requires c κs =
 pub point-spec : {M : Type 1} → statement M
 point-spec =
     tie.close
-    (tie.spec
-    (λ c. search needs)
-    (λ c. lent 256 _ (omega arith))
-    (λ c. search needs)
-    (λ c. lent 256 _ (omega arith))
-    (λ c. search needs)
-    (λ c. lent 256 _ (omega arith))
-    (λ c. search needs)
-    (λ c. lent 256 _ (omega arith))
-    told-agrees-requires
-    (λ c. search needs))
+    (tie.spec (λ c. search needs) (λ c. lent 256 _ (omega arith)) (λ c. search needs) (λ c. lent 256 _ (omega arith)) (λ c. search needs)
+    (λ c. lent 256 _ (omega arith)) (λ c. search needs) (λ c. lent 256 _ (omega arith)) told-agrees-requires (λ c. search needs))

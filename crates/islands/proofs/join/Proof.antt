@@ -26,6 +26,4 @@ returns-2 c = λ rank root w.
     (rank, unmoved _ (t .1) (s .args .from) (s .args .to) (s .pre .0) (s .pre .1) (sym (f .0) ∙ c .if1 .left ∙ t .0))
 
 pub join-spec : {M : Type 1} → statement M
-join-spec =
-    tie.close
-    (tie.spec (λ c κs. search needs) find-requires-2 (λ c. omega arith) (λ c. omega arith) returns returns-2)
+join-spec = tie.close (tie.spec (λ c κs. search needs) find-requires-2 (λ c. omega arith) (λ c. omega arith) returns returns-2)

@@ -52,17 +52,5 @@ returns c = λ rank root w.
 pub label-all-spec : {M : Type 1} → statement M
 label-all-spec =
     tie.close
-    (tie.spec
-    Inv-loop
-    μ-loop
-    loop-holds
-    find-requires
-    or-insert-requires
-    (λ c. omega arith)
-    (λ c. omega arith)
-    (λ c. omega arith)
-    (λ c. omega arith)
-    (λ c. omega arith)
-    (λ c. omega arith)
-    loop-again
-    returns)
+    (tie.spec Inv-loop μ-loop loop-holds find-requires or-insert-requires (λ c. omega arith) (λ c. omega arith) (λ c. omega arith) (λ c. omega arith)
+    (λ c. omega arith) (λ c. omega arith) loop-again returns)

@@ -13,4 +13,5 @@ returns-2 c = rw (eq-eqb (getD (c .before .before .before .args .label .of) (c .
 
 pub or-insert-spec : {M : Type 1} → statement M
 or-insert-spec =
-    tie.close (tie.spec (λ c. search needs) (λ c. search needs) returns (λ c. search needs) (λ c. search needs) (λ c. search needs) returns-2)
+    tie.close
+    (tie.spec (λ c. search needs) (λ c. search needs) returns (λ c. search needs) (λ c. search needs) (λ c. search needs) returns-2)

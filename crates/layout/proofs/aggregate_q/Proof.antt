@@ -78,26 +78,6 @@ returns c =
 pub aggregate-q-spec : {M : Type 1} → statement M
 aggregate-q-spec =
     tie.close
-    (tie.spec
-    Inv-loop
-    μ-loop
-    loop-holds
-    (λ c. omega arith)
-    (λ c. omega arith)
-    mul-qmin-bus
-    array-read-qmin-bus
-    (λ c. omega arith)
-    (λ c. omega arith)
-    mul-qmin-bus-3
-    array-write-qmin-bus
-    mul-qmax-bus
-    array-read-qmax-bus
-    (λ c. omega arith)
-    (λ c. omega arith)
-    mul-qmax-bus-3
-    array-write-qmax-bus
-    array-write-has-gen
-    (λ c. omega arith)
-    (λ c. omega arith)
-    loop-again
-    returns)
+    (tie.spec Inv-loop μ-loop loop-holds (λ c. omega arith) (λ c. omega arith) mul-qmin-bus array-read-qmin-bus (λ c. omega arith) (λ c. omega arith)
+    mul-qmin-bus-3 array-write-qmin-bus mul-qmax-bus array-read-qmax-bus (λ c. omega arith) (λ c. omega arith) mul-qmax-bus-3 array-write-qmax-bus
+    array-write-has-gen (λ c. omega arith) (λ c. omega arith) loop-again returns)

@@ -39,15 +39,5 @@ returns c =
 pub default-kinds-spec : {M : Type 1} → statement M
 default-kinds-spec =
     tie.close
-    (tie.spec
-    Inv-loop
-    μ-loop
-    (λ c κs. search needs)
-    loop-holds
-    (λ c. search needs)
-    (λ c. search needs)
-    array-set-from-kinds
-    (λ c. search needs)
-    (λ c. search needs)
-    loop-again
-    returns)
+    (tie.spec Inv-loop μ-loop (λ c κs. search needs) loop-holds (λ c. search needs) (λ c. search needs) array-set-from-kinds (λ c. search needs)
+    (λ c. search needs) loop-again returns)

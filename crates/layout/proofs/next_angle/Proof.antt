@@ -14,12 +14,5 @@ returns-3 c = rw (c .enum-told3 .given .1) (refl, omega arith)
 pub next-angle-spec : {M : Type 1} → statement M
 next-angle-spec =
     tie.close
-    (tie.spec
-    (λ c. search needs)
-    (λ c. search needs)
-    (λ c. search needs)
-    (λ c. search needs)
-    (λ c. search needs)
-    (λ c. search needs)
-    returns-2
+    (tie.spec (λ c. search needs) (λ c. search needs) (λ c. search needs) (λ c. search needs) (λ c. search needs) (λ c. search needs) returns-2
     returns-3)

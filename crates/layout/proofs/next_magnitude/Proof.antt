@@ -11,11 +11,4 @@ returns-3 c = rw (c .enum-told3 .given .1) (refl, omega arith)
 pub next-magnitude-spec : {M : Type 1} → statement M
 next-magnitude-spec =
     tie.close
-    (tie.spec
-    (λ c. search needs)
-    (λ c. search needs)
-    (λ c. search needs)
-    (λ c. search needs)
-    (λ c. search needs)
-    (λ c. search needs)
-    returns-3)
+    (tie.spec (λ c. search needs) (λ c. search needs) (λ c. search needs) (λ c. search needs) (λ c. search needs) (λ c. search needs) returns-3)

@@ -48,15 +48,5 @@ returns-2 c =
 pub put-real-spec : {M : Type 1} → statement M
 put-real-spec =
     tie.close
-    (tie.spec
-    (λ c. search needs)
-    (λ c κs. search needs)
-    (λ c. search needs)
-    returns
-    float-to-bits-hex
-    (λ c κs. search needs)
-    (λ c. search needs)
-    (λ c. search needs)
-    put-requires-2
-    (λ c. search needs)
-    returns-2)
+    (tie.spec (λ c. search needs) (λ c κs. search needs) (λ c. search needs) returns float-to-bits-hex (λ c κs. search needs) (λ c. search needs)
+    (λ c. search needs) put-requires-2 (λ c. search needs) returns-2)

@@ -15,4 +15,6 @@ returns c =
     (two-values _ (real _) (whole _) (then (then (then (a .put-head .ensures .0) (b .put-gap .ensures .0)) (d .put-count .ensures .0)) (e .put-byte .ensures)), omega (arith, a .put-head .ensures .1, b .put-gap .ensures .1, d .put-count .ensures .1, e .put-byte .ensures .ends))
 
 pub put-spent-spec : {M : Type 1} → statement M
-put-spent-spec = tie.close (tie.spec (λ c κs. search needs) (λ c κs. search needs) (λ c κs. search needs) (λ c κs. search needs) (λ c. search needs) returns)
+put-spent-spec =
+    tie.close
+    (tie.spec (λ c κs. search needs) (λ c κs. search needs) (λ c κs. search needs) (λ c κs. search needs) (λ c. search needs) returns)

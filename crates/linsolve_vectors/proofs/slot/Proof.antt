@@ -39,13 +39,4 @@ returns-4 c = (
 pub slot-spec : {M : Type 1} → statement M
 slot-spec =
     tie.close
-    (tie.spec
-    (λ c κs. search needs)
-    returns
-    returns-2
-    mul-result
-    add-result
-    add-result-2
-    returns-3
-    (λ c κs. search needs)
-    returns-4)
+    (tie.spec (λ c κs. search needs) returns returns-2 mul-result add-result add-result-2 returns-3 (λ c κs. search needs) returns-4)

@@ -9,9 +9,12 @@ use borrow.Author.Tests.{eqb-true, leb-true, eq-eqb, le-leb}
 use Rattle.real.specs.Tests.{both, both-l, both-r}
 use Rattle.network.specs.Below.Laws.{all-below}
 use Rattle.network.specs.declared.Rows.{Rows}
-use Rattle.network.specs.Network.{Buses, Slacks, Generators, Branches, Triplets, Network, busCount, RoomBuses, RoomSlacks, RoomGenerators, RoomBranches, RoomTriplets, AtMost, roomOf, firstBuses, firstSlacks, firstGenerators, firstBranches, firstTriplets, firstRows}
+use Rattle.network.specs.Network.{Buses, Slacks, Generators, Branches, Triplets, Network, busCount, AtMost, roomOf}
+use Rattle.network.specs.Network.{RoomBuses, RoomSlacks, RoomGenerators, RoomBranches, RoomTriplets}
+use Rattle.network.specs.Network.{firstBuses, firstSlacks, firstGenerators, firstBranches, firstTriplets, firstRows}
 use Rattle.network.specs.Network.Laws.{room-buses, room-slacks, room-generators, room-branches, room-triplets}
-use Rattle.network.specs.Checks.{sizes, busesCounted, slacksCounted, generatorsCounted, branchesCounted, tripletsCounted, counted, numbered, SizedBuses, SizedSlacks, SizedGenerators, SizedBranches, SizedTriplets, WellIndexed}
+use Rattle.network.specs.Checks.{sizes, busesCounted, slacksCounted, generatorsCounted, branchesCounted, tripletsCounted, counted, numbered}
+use Rattle.network.specs.Checks.{SizedBuses, SizedSlacks, SizedGenerators, SizedBranches, SizedTriplets, WellIndexed}
 
 -- ---- each table's test tells its facts
 
@@ -81,7 +84,7 @@ well-indexed t h k =
 
 -- ---- tables of those sizes pass
 
-pub sized-counted : (t : Network) → SizedBuses (t .buses) → SizedSlacks (t .slacks) → SizedGenerators (t .generators) → SizedBranches (t .branches)
+sized-counted : (t : Network) → SizedBuses (t .buses) → SizedSlacks (t .slacks) → SizedGenerators (t .generators) → SizedBranches (t .branches)
     → SizedTriplets (t .triplets) → counted t ≡ true
 unfolding counted both
 sized-counted t b r g l y = rw (

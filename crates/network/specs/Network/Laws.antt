@@ -9,7 +9,8 @@ use lib.ListN.{length, take}
 use lib.Seq.{length-take-le}
 use Rattle.real.specs.Tests.{both, both-l, both-r}
 use Rattle.network.specs.declared.Rows.{Rows}
-use Rattle.network.specs.Network.{Buses, Slacks, Generators, Branches, Triplets, Network, roomOf, busesRoom, slacksRoom, generatorsRoom, branchesRoom, tripletsRoom, RoomBuses, RoomSlacks, RoomGenerators, RoomBranches, RoomTriplets, RoomFor, AtMost, fitsOf}
+use Rattle.network.specs.Network.{Buses, Slacks, Generators, Branches, Triplets, Network, roomOf, busesRoom, slacksRoom, generatorsRoom, branchesRoom, tripletsRoom, AtMost, fitsOf}
+use Rattle.network.specs.Network.{RoomBuses, RoomSlacks, RoomGenerators, RoomBranches, RoomTriplets, RoomFor}
 
 -- ---- at most the shortest column is at most each
 

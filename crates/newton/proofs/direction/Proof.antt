@@ -13,4 +13,6 @@ returns c =
     direction-is _ _ _ _ _ _ _ _ _ (k .clear .ensures) (j .ac-jacobian .ensures) (l .load-sides .ensures) (s .solve .ensures)
 
 pub direction-spec : {M : Type 1} → statement M
-direction-spec = tie.close (tie.spec (λ c κs. search needs) (λ c κs. search needs) (λ c κs. search needs) (λ c κs. search needs) (λ c. search needs) returns)
+direction-spec =
+    tie.close
+    (tie.spec (λ c κs. search needs) (λ c κs. search needs) (λ c κs. search needs) (λ c κs. search needs) (λ c. search needs) returns)

@@ -35,4 +35,6 @@ returns-2 : tie.Need-returns-2 Inv-loop μ-loop
 returns-2 c = let e : c .before .loop .k ≡ 12 = omega arith in tries-none _ _ _ _ _ _ ∙ (rw e at (c .before .loop .inv .1))
 
 pub search-spec : {M : Type 1} → statement M
-search-spec = tie.close (tie.spec Inv-loop μ-loop loop-holds (λ c κs. search needs) returns (λ c. search needs) (λ c. search needs) loop-again returns-2)
+search-spec =
+    tie.close
+    (tie.spec Inv-loop μ-loop loop-holds (λ c κs. search needs) returns (λ c. search needs) (λ c. search needs) loop-again returns-2)

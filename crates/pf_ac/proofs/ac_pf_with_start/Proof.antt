@@ -6,7 +6,7 @@ use denote.Ref.{now}
 use Rattle.starts.specs.References.Laws.{references-slacks}
 use Rattle.network.specs.Network.{Network, busesOf, slacksOf, generatorsOf, branchesOf, tripletsOf, networkOf}
 use Rattle.network.specs.Checks.{WellIndexed}
-use Rattle.pf_ac.specs.WithStart.Laws.{branch-ends, good-study, acPf-is}
+use Rattle.pf_ac.specs.WithStart.Laws.{branch-ends, good-study, acPf-from-parts}
 use Rattle.pf_ac.proofs.ac_pf_with_start.Statement.{statement}
 use Rattle.pf_ac.proofs.ac_pf_with_start.Tie as tie
 
@@ -102,20 +102,11 @@ returns c =
     let i = g .before in
     let l = i .before in
     let k = l .before in
-    acPf-is _ (network-of (kinds-start k)) _ _ (k .default-kinds .ensures) _ (l .aggregate-q .ensures) _ (i .island-references .ensures) _ (g .flat-start .ensures) _
+    acPf-from-parts _ (network-of (kinds-start k)) _ _ (k .default-kinds .ensures) _ (l .aggregate-q .ensures) _ (i .island-references .ensures) _ (g .flat-start .ensures) _
     (p .first-start .ensures) _ (q .column .ensures) _ (h .column2 .ensures) _ (f .search .ensures)
 
 pub ac-pf-with-start-spec : {M : Type 1} → statement M
 ac-pf-with-start-spec =
     tie.close
-    (tie.spec
-    default-kinds-requires
-    aggregate-q-requires
-    island-references-requires
-    flat-start-requires
-    first-start-requires
-    column-requires
-    column-requires-2
-    search-requires
-    (λ c. search needs)
-    returns)
+    (tie.spec default-kinds-requires aggregate-q-requires island-references-requires flat-start-requires first-start-requires column-requires
+    column-requires-2 search-requires (λ c. search needs) returns)

@@ -33,11 +33,11 @@ module _ (t : Network) (r : WellIndexed t) where
       let c = r .buses .pg in
       record { good = good-triplets; demands = omega arith; reactive = omega arith; dispatch = omega arith }
 
-pub acPf-is : (start : AcStart) (t : Network) (w : List Float) (kinds : List BusKind) → kinds ≡ kindsFor t → (l : Limits) → l ≡ limitsFor t
+pub acPf-from-parts : (start : AcStart) (t : Network) (w : List Float) (kinds : List BusKind) → kinds ≡ kindsFor t → (l : Limits) → l ≡ limitsFor t
     → (r : References) → r ≡ referencesFor t → (flat : Point) → flat ≡ flatOf (busCount t) (t .buses .vm-set) r
     → (first : Point) → first ≡ firstStart start (busCount t) (t .buses .vm-set) (t .buses .vm-case) (t .buses .va-case) r flat
     → (qg : List Float) → qg ≡ tabled (busCount t) (t .buses .qg) → (hold : List Float) → hold ≡ tabled (busCount t) (t .buses .vm-set)
     → (x : Searched) → x ≡ searchOf start (study (busCount t) (t .triplets) (t .buses .pd) (t .buses .qd) (t .buses .pg) qg l hold) kinds first flat w
     → x ≡ acPfOf start t w
 unfolding acPfOf
-acPf-is start t w kinds ek l el r er flat ef first es qg eq hold eh x ex = rw (ex, eh, eq, es, ef, er, el, ek)
+acPf-from-parts start t w kinds ek l el r er flat ef first es qg eq hold eh x ex = rw (ex, eh, eq, es, ef, er, el, ek)

@@ -119,4 +119,5 @@ module _ (t : Network) (few : busCount t ≤ 32) (vm : List Float)
   pub pinned-unread : (start : AcStart) (w : List Float) → acPfOf start t w ≡ acPfOf start (withStored t vm) w
   unfolding acPfOf
   pinned-unread start =
-      search-pinned start (studyFor t) (kindsFor t) (firstFor start t) (firstFor start (withStored t vm)) (flatFor t) (start-unread (kindsFor t) (studyFor t) (firstFor start t) (firstFor start (withStored t vm)) (start-pinned start))
+      search-pinned start (studyFor t) (kindsFor t) (firstFor start t) (firstFor start (withStored t vm)) (flatFor t)
+      (start-unread (kindsFor t) (studyFor t) (firstFor start t) (firstFor start (withStored t vm)) (start-pinned start))

@@ -185,4 +185,5 @@ withheld start t u few a w =
     let f = u .buses in
     let g = u .generators in
     figures-unread start t u few a w
-    ∙ (λ j. acPfOf start (networkOf (busesOf (b .kind j) (b .vm-set j) (f .pd) (f .qd) (f .pg) (f .qg) (f .vm-case) (f .va-case)) (a .slacks j) (generatorsOf (a .generators .bus j) (g .qmin) (g .qmax)) (a .branches j) (a .triplets j)) w)
+    ∙ (λ j. acPfOf start (networkOf (busesOf (b .kind j) (b .vm-set j) (f .pd) (f .qd) (f .pg) (f .qg) (f .vm-case) (f .va-case)) (a .slacks j)
+    (generatorsOf (a .generators .bus j) (g .qmin) (g .qmax)) (a .branches j) (a .triplets j)) w)

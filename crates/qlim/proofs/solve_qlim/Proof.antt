@@ -157,27 +157,6 @@ loop-again c =
 pub solve-qlim-spec : {M : Type 1} → statement M
 solve-qlim-spec =
     tie.close
-    (tie.spec
-    Inv-loop
-    μ-loop
-    pin-requires
-    loop-holds
-    with-kinds-requires
-    newton-requires
-    settle-requires
-    same-length
-    returns
-    moves-at-end-requires
-    any-move-requires
-    settle-requires-2
-    same-length-2
-    returns-2
-    settle-requires-3
-    same-length-3
-    returns-3
-    kinds-after-requires
-    track-after-requires
-    pin-requires-2
-    add-round
-    loop-less
-    loop-again)
+    (tie.spec Inv-loop μ-loop pin-requires loop-holds with-kinds-requires newton-requires settle-requires same-length returns moves-at-end-requires
+    any-move-requires settle-requires-2 same-length-2 returns-2 settle-requires-3 same-length-3 returns-3 kinds-after-requires track-after-requires
+    pin-requires-2 add-round loop-less loop-again)

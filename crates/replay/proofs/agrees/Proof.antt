@@ -12,5 +12,4 @@ returns c =
     (λ e. sym is ∙ c .same .ensures .0 e, λ e. c .same .ensures .1 (is ∙ e))
 
 pub agrees-spec : {M : Type 1} → statement M
-agrees-spec =
-    tie.close (tie.spec (λ c κs. search needs) (λ c. search needs) (λ c κs. search needs) returns)
+agrees-spec = tie.close (tie.spec (λ c κs. search needs) (λ c. search needs) (λ c κs. search needs) returns)

@@ -34,33 +34,9 @@ returns-6 c =
 pub next-spec : {M : Type 1} → statement M
 next-spec =
     tie.close
-    (tie.spec
-    (λ c κs. search needs)
-    (λ c. search needs)
-    (λ c. no-record (omega arith) (omega arith))
-    (λ c. search needs)
-    (λ c. no-record (omega arith) (omega arith))
-    (λ c κs. search needs)
-    (λ c κs. search needs)
-    (λ c κs. search needs)
-    (λ c. search needs)
-    (λ c. search needs)
-    (λ c. no-record (omega arith) (omega arith))
-    (λ c κs. search needs)
-    (λ c. search needs)
-    (λ c. search needs)
-    (λ c. search needs)
-    (λ c. no-record (omega arith) (omega arith))
-    (λ c. search needs)
-    slice-aggregate-agrees
-    (λ c. search needs)
-    slice-aggregate-agrees-2
-    (λ c κs. search needs)
-    (λ c. search needs)
-    (λ c. search needs)
-    (λ c. search needs)
-    returns-5
-    (λ c. search needs)
-    (λ c. search needs)
-    (λ c. search needs)
-    returns-6)
+    (tie.spec (λ c κs. search needs) (λ c. search needs) (λ c. no-record (omega arith) (omega arith)) (λ c. search needs)
+    (λ c. no-record (omega arith) (omega arith)) (λ c κs. search needs) (λ c κs. search needs) (λ c κs. search needs) (λ c. search needs)
+    (λ c. search needs) (λ c. no-record (omega arith) (omega arith)) (λ c κs. search needs) (λ c. search needs) (λ c. search needs)
+    (λ c. search needs) (λ c. no-record (omega arith) (omega arith)) (λ c. search needs) slice-aggregate-agrees (λ c. search needs)
+    slice-aggregate-agrees-2 (λ c κs. search needs) (λ c. search needs) (λ c. search needs) (λ c. search needs) returns-5 (λ c. search needs)
+    (λ c. search needs) (λ c. search needs) returns-6)

@@ -40,15 +40,5 @@ returns-3 c =
 pub same-spec : {M : Type 1} → statement M
 same-spec =
     tie.close
-    (tie.spec
-    Inv-loop
-    μ-loop
-    returns
-    loop-holds
-    (λ c. omega arith)
-    (λ c. omega arith)
-    returns-2
-    (λ c. omega arith)
-    (λ c. omega arith)
-    loop-again
+    (tie.spec Inv-loop μ-loop returns loop-holds (λ c. omega arith) (λ c. omega arith) returns-2 (λ c. omega arith) (λ c. omega arith) loop-again
     returns-3)

@@ -44,14 +44,5 @@ loop-again c =
 pub spaced-spec : {M : Type 1} → statement M
 spaced-spec =
     tie.close
-    (tie.spec
-    Inv-loop
-    μ-loop
-    loop-holds
-    (λ c κs. search needs)
-    returns
-    (λ c. search needs)
-    returns-2
-    (λ c. search needs)
-    (λ c. search needs)
+    (tie.spec Inv-loop μ-loop loop-holds (λ c κs. search needs) returns (λ c. search needs) returns-2 (λ c. search needs) (λ c. search needs)
     loop-again)

@@ -34,19 +34,5 @@ returns-10 c = rw (c .before .enum-told5 .given .1, lt-leb 2 _ (c .if5 .left))
 pub wanted-spec : {M : Type 1} → statement M
 wanted-spec =
     tie.close
-    (tie.spec
-    (λ c. search needs)
-    returns
-    returns-2
-    (λ c. search needs)
-    returns-3
-    (λ c. search needs)
-    returns-4
-    (λ c. search needs)
-    (λ c. search needs)
-    returns-5
-    returns-6
-    returns-7
-    returns-8
-    (λ c. search needs)
-    returns-10)
+    (tie.spec (λ c. search needs) returns returns-2 (λ c. search needs) returns-3 (λ c. search needs) returns-4 (λ c. search needs)
+    (λ c. search needs) returns-5 returns-6 returns-7 returns-8 (λ c. search needs) returns-10)

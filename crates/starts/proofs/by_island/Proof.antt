@@ -66,21 +66,5 @@ returns c =
 pub by-island-spec : {M : Type 1} → statement M
 by-island-spec =
     tie.close
-    (tie.spec
-    Inv-loop
-    μ-loop
-    loop-holds
-    (λ c. omega arith)
-    (λ c. omega arith)
-    mul-l
-    array-read-l
-    mul-slack
-    array-write-slack
-    (λ c. omega arith)
-    (λ c. omega arith)
-    mul-va-2
-    array-write-va
-    (λ c. omega arith)
-    (λ c. omega arith)
-    loop-again
-    returns)
+    (tie.spec Inv-loop μ-loop loop-holds (λ c. omega arith) (λ c. omega arith) mul-l array-read-l mul-slack array-write-slack (λ c. omega arith)
+    (λ c. omega arith) mul-va-2 array-write-va (λ c. omega arith) (λ c. omega arith) loop-again returns)

@@ -86,23 +86,6 @@ returns c =
 pub island-references-spec : {M : Type 1} → statement M
 island-references-spec =
     tie.close
-    (tie.spec
-    Inv-loop
-    μ-loop
-    (λ c κs. search needs)
-    by-island-requires
-    loop-holds
-    (λ c. search needs)
-    (λ c. search needs)
-    mul-slack
-    element-copy-out-slack
-    (λ c. search needs)
-    (λ c. search needs)
-    mul-va
-    element-copy-out-va
-    (λ c. search needs)
-    (λ c. search needs)
-    (λ c. search needs)
-    (λ c. search needs)
-    loop-again
-    returns)
+    (tie.spec Inv-loop μ-loop (λ c κs. search needs) by-island-requires loop-holds (λ c. search needs) (λ c. search needs) mul-slack
+    element-copy-out-slack (λ c. search needs) (λ c. search needs) mul-va element-copy-out-va (λ c. search needs) (λ c. search needs)
+    (λ c. search needs) (λ c. search needs) loop-again returns)

@@ -12,12 +12,5 @@ returns-3 c = rw (c .before .enum-told3 .given .1, c .mix2 .ensures)
 pub nudge-spec : {M : Type 1} → statement M
 nudge-spec =
     tie.close
-    (tie.spec
-    (λ c. search needs)
-    (λ c. search needs)
-    (λ c κs. search needs)
-    (λ c. search needs)
-    (λ c κs. search needs)
-    (λ c. search needs)
-    returns-2
+    (tie.spec (λ c. search needs) (λ c. search needs) (λ c κs. search needs) (λ c. search needs) (λ c κs. search needs) (λ c. search needs) returns-2
     returns-3)

@@ -58,17 +58,10 @@ returns c =
 pub write-answer-spec : {M : Type 1} → statement M
 write-answer-spec =
     tie.close
-    (tie.spec
-    (λ c κs. search needs)
-    (λ c κs. search needs)
-    (λ c κs. let r = vm-start c .pre in (r .0 .few, r .1 .vm))
-    (λ c κs. let r = va-start c .pre in (r .0 .few, r .1 .va))
-    (λ c κs. let r = p-start c .pre in (r .0 .few, r .1 .p))
-    (λ c κs. let r = q-start c .pre in (r .0 .few, r .1 .q))
-    (λ c κs. let r = kinds-start c .pre in (r .0 .few, r .1 .kinds))
+    (tie.spec (λ c κs. search needs) (λ c κs. search needs) (λ c κs. let r = vm-start c .pre in (r .0 .few, r .1 .vm))
+    (λ c κs. let r = va-start c .pre in (r .0 .few, r .1 .va)) (λ c κs. let r = p-start c .pre in (r .0 .few, r .1 .p))
+    (λ c κs. let r = q-start c .pre in (r .0 .few, r .1 .q)) (λ c κs. let r = kinds-start c .pre in (r .0 .few, r .1 .kinds))
     (λ c. vm-of (va-of (p-of (q-of (kinds-of c .before) .before) .before) .before) .fill .kept .1 .1 .0)
     (λ c. va-of (p-of (q-of (kinds-of c .before) .before) .before) .fill2 .kept .1 .1 .0)
-    (λ c. p-of (q-of (kinds-of c .before) .before) .fill3 .kept .1 .1 .0)
-    (λ c. q-of (kinds-of c .before) .fill4 .kept .1 .1 .0)
-    (λ c. kinds-of c .fill-bytes .kept .1 .1 .0)
-    returns)
+    (λ c. p-of (q-of (kinds-of c .before) .before) .fill3 .kept .1 .1 .0) (λ c. q-of (kinds-of c .before) .fill4 .kept .1 .1 .0)
+    (λ c. kinds-of c .fill-bytes .kept .1 .1 .0) returns)

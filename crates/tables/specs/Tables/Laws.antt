@@ -92,10 +92,10 @@ zeros-are w =
     ext-getD nought (stores (λ b. nought) (length w) w) (replicate (length w) nought) (simp (stores-length, length-replicate))
     (λ i h. let p : i < length w = rw stores-length at h in stores-at (λ b. nought) (length w) w i nought p (le-refl (length w)) ∙ sym (getD-replicate (length w) i nought nought p))
 
-pub run-is : (start : AcStart) (t : Network) (w v v₀ : List Float) (found : AcPf) (best : Settled) → searched found best v ≡ acPfOf start t w → v₀ ≡ zeros v
+pub run-from-parts : (start : AcStart) (t : Network) (w v v₀ : List Float) (found : AcPf) (best : Settled) → searched found best v ≡ acPfOf start t w → v₀ ≡ zeros v
     → length v ≡ length w → ran found best v₀ ≡ runOf start t w
 unfolding runOf zeros
-run-is start t w v v₀ found best e ev same = rw (← e, ev, same)
+run-from-parts start t w v v₀ found best e ev same = rw (← e, ev, same)
 
 -- ---- the writing
 

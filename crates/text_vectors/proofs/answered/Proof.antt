@@ -20,11 +20,4 @@ returns-2 c = rw (c .before .before .v .given .1) (c .good2 .ensures)
 pub answered-spec : {M : Type 1} → statement M
 answered-spec =
     tie.close
-    (tie.spec
-    (λ c. search needs)
-    (λ c κs. search needs)
-    (λ c κs. search needs)
-    refused-requires
-    returns
-    (λ c κs. search needs)
-    returns-2)
+    (tie.spec (λ c. search needs) (λ c κs. search needs) (λ c κs. search needs) refused-requires returns (λ c κs. search needs) returns-2)

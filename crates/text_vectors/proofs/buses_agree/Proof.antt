@@ -11,4 +11,7 @@ returns c =
     (λ (((((((x0, x1), x2), x3), x4), x5), x6), x7). λ i. record { kind = x0 i; vm-set = x1 i; pd = x2 i; qd = x3 i; pg = x4 i; qg = x5 i; vm-case = x6 i; va-case = x7 i })
 
 pub buses-agree-spec : {M : Type 1} → statement M
-buses-agree-spec = tie.close (tie.spec (λ c κs. search needs) (λ c κs. search needs) (λ c κs. search needs) (λ c κs. search needs) (λ c κs. search needs) (λ c κs. search needs) (λ c κs. search needs) (λ c κs. search needs) returns)
+buses-agree-spec =
+    tie.close
+    (tie.spec (λ c κs. search needs) (λ c κs. search needs) (λ c κs. search needs) (λ c κs. search needs) (λ c κs. search needs)
+    (λ c κs. search needs) (λ c κs. search needs) (λ c κs. search needs) returns)

@@ -14,4 +14,6 @@ returns c =
     (rows-told (rows .before .args .r) _)
 
 pub rows-agree-spec : {M : Type 1} → statement M
-rows-agree-spec = tie.close (tie.spec (λ c κs. search needs) (λ c κs. search needs) (λ c κs. search needs) (λ c κs. search needs) (λ c κs. search needs) returns)
+rows-agree-spec =
+    tie.close
+    (tie.spec (λ c κs. search needs) (λ c κs. search needs) (λ c κs. search needs) (λ c κs. search needs) (λ c κs. search needs) returns)

@@ -19,6 +19,4 @@ returns-2 : tie.Need-returns-2
 returns-2 c = rw (ne-eqb _ 32 (c .if1 .left))
 
 pub group-spec : {M : Type 1} → statement M
-group-spec =
-    tie.close
-    (tie.spec (λ c. search needs) (λ c. search needs) (λ c. search needs) whole-requires returns returns-2)
+group-spec = tie.close (tie.spec (λ c. search needs) (λ c. search needs) (λ c. search needs) whole-requires returns returns-2)

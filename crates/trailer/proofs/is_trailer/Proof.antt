@@ -13,6 +13,4 @@ unfolding trailerOf
 returns-2 c = rw (← c .before .is-flag .ensures, c .if1 .left)
 
 pub is-trailer-spec : {M : Type 1} → statement M
-is-trailer-spec =
-    tie.close
-    (tie.spec (λ c. search needs) (λ c κs. search needs) (λ c κs. search needs) returns returns-2)
+is-trailer-spec = tie.close (tie.spec (λ c. search needs) (λ c κs. search needs) (λ c κs. search needs) returns returns-2)

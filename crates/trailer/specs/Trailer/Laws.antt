@@ -119,10 +119,6 @@ rising k s t w = record {
 -- ---- 01's trailer
 
 module _ (s : List ℕ) (t : ℕ) (h : trailerOf s t ≡ true) where
-  pub flag-good : flagged (getD s t 0) ≡ true
-  unfolding trailerOf
-  flag-good = and-left _ _ h
-
   pub good-trailer : GoodTrailer groups s t
   unfolding trailerOf
   good-trailer = behind-flag groups s t (and-right (flagged (getD s t 0)) _ h)

@@ -39,5 +39,4 @@ returns-3 c =
     (λ h. back (s .args .x) (s .args .y) (s .good .0 .1) (s .good .1 .0 .1) (eqb-true _ _ h), λ e. eq-eqb (toBits binary64 (s .args .x)) (toBits binary64 (s .args .y)) (ap (toBits binary64) e))
 
 pub same-spec : {M : Type 1} → statement M
-same-spec =
-    tie.close (tie.spec returns returns-2 float-to-bits-result float-to-bits-result-2 returns-3)
+same-spec = tie.close (tie.spec returns returns-2 float-to-bits-result float-to-bits-result-2 returns-3)
