@@ -87,7 +87,9 @@ listing-tables t =
     (t .branches)
     (tripletsOf (set (y .row) 0 0) (set (y .col) 0 0) (set (y .re) 0 two) (set (y .im) 0 minus-eight))
 
-values-B : (columnOf (kindField 0) line-B ≡ 81 ∷ []) × (columnOf (realField 1) line-B ≡ one ∷ []) × (columnOf (realField 2) line-B ≡ nought ∷ []) × (columnOf (realField 3) line-B ≡ nought ∷ []) × (columnOf (realField 4) line-B ≡ nought ∷ []) × (columnOf (realField 5) line-B ≡ nought ∷ []) × (columnOf (realField 6) line-B ≡ nan ∷ []) × (columnOf (realField 7) line-B ≡ nan ∷ [])
+values-B : (columnOf (kindField 0) line-B ≡ 81 ∷ []) × (columnOf (realField 1) line-B ≡ one ∷ []) × (columnOf (realField 2) line-B ≡ nought ∷ [])
+    × (columnOf (realField 3) line-B ≡ nought ∷ []) × (columnOf (realField 4) line-B ≡ nought ∷ []) × (columnOf (realField 5) line-B ≡ nought ∷ [])
+    × (columnOf (realField 6) line-B ≡ nan ∷ []) × (columnOf (realField 7) line-B ≡ nan ∷ [])
 unfolding ended pieces upto past has digits number amountOf ofBits div neg ofInt
 values-B = (refl, refl, refl, refl, refl, refl, refl, refl)
 

@@ -6,7 +6,8 @@ ghost use lib.ListN.{length};
 ghost use Rattle.network.specs.Network.{tripletsOf};
 ghost use Rattle.injections.specs.Injections.{GoodTriplets};
 ghost use Rattle.vectors.specs.Words.{wordOf, Tells, Found};
-ghost use Rattle.injection_vectors.specs.Told.{wordsTold, doublesTold, tableTold, columnsTold, columnTold, layoutTold, injectionsTold, tripletsTold, placeTold, Holds, Fits, injectionsAt, jacobianAt, Entries, Agrees};
+ghost use Rattle.injection_vectors.specs.Told.{wordsTold, doublesTold, tableTold, columnsTold, columnTold, layoutTold, injectionsTold};
+ghost use Rattle.injection_vectors.specs.Told.{tripletsTold, placeTold, Holds, Fits, injectionsAt, jacobianAt, Entries, Agrees};
 use injections::Column;
 use injections::Injections;
 use layout::AcPfLayout;
@@ -294,7 +295,7 @@ fn next(head: &mut [u8; 24], body: &mut [u8; 44032]) -> u64
     if !vectors::read(STDIN_FILENO, body, m * 32 + n * 96 + dim * dim * 8) {
         return 2;
     }
-    vectors::verdict(point(body, n, m, dim))
+    vectors::agreement(point(body, n, m, dim))
 }
 
 fn main() {

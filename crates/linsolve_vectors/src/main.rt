@@ -112,7 +112,7 @@ fn next(head: &mut [u8; 16], body: &mut [u8; 66560]) -> u64
     if !vectors::read(STDIN_FILENO, body, size(dim) * 16) {
         return 2;
     }
-    vectors::verdict(agrees(body, dim, vectors::word(head, 8)))
+    vectors::agreement(agrees(body, dim, vectors::word(head, 8)))
 }
 
 fn main() {

@@ -81,7 +81,7 @@ tripletsTold s = tripletsOf (numbersTold s 15) (numbersTold s 16) (realsTold s 1
 abbrev pub outcomeTold : List ℕ → ReadResult
 outcomeTold s = readResult (paperTold s) (networkOf (busesTold s) (slacksTold s) (generatorsTold s) (branchesTold s) (tripletsTold s))
 
--- a column's mark, in every place before a reading: no kind's byte and no bus number of these texts, and no real of 15 digits, which is 1e300
+-- the mark that stands in every place before a reading: 251 is no kind's byte and no bus number of these texts, and no real of 15 digits is 1e300
 abbrev pub numberMark : ℕ
 numberMark = 251
 

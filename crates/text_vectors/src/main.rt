@@ -185,7 +185,9 @@ fn buses_agree(
 ) -> bool
     ensures { λ r.
         let m = widthTold (now (s .entry)) in
-        ⌜ Tells r (firstBuses m (busesOf (now (kind .entry)) (now («vm_set» .entry)) (now (pd .entry)) (now (qd .entry)) (now (pg .entry)) (now (qg .entry)) (now («vm_case» .entry)) (now («va_case» .entry))) ≡ busesTold (now (s .entry))) ⌝ }
+        let t = busesOf (now (kind .entry)) (now («vm_set» .entry)) (now (pd .entry)) (now (qd .entry)) (now (pg .entry)) (now (qg .entry)) (now («vm_case» .entry))
+        (now («va_case» .entry)) in
+        ⌜ Tells r (firstBuses m t ≡ busesTold (now (s .entry))) ⌝ }
 {
     kinds(s, 0, kind)
         & reals(s, 1, vm_set)
@@ -311,7 +313,7 @@ fn next(head: &mut [u8; 4], text: &mut [u8; 65536], s: &mut [u8; 600000]) -> u64
         return 2;
     }
     let read: &[u8] = text;
-    vectors::verdict(agrees(&read[..n], s))
+    vectors::agreement(agrees(&read[..n], s))
 }
 
 fn main() {

@@ -41,8 +41,8 @@ abbrev pub startAt : List ℕ → ℕ → ℕ
 startAt s at = numberIn (groupAt s at)
 
 -- the number of group j of the trailer at t, counted from 0: behind the flag and j groups
-abbrev pub numberOf : List ℕ → ℕ → ℕ → ℕ
-numberOf s t j = startAt s (t + 1 + 6 * j)
+abbrev pub groupNumber : List ℕ → ℕ → ℕ → ℕ
+groupNumber s t j = startAt s (t + 1 + 6 * j)
 
 -- so many groups from a place on, their numbers from `low` on: "they never fall", and the last is `end`
 unfoldable pub risingOf : ℕ → List ℕ → ℕ → ℕ → ℕ → Bool
@@ -58,7 +58,7 @@ modeOf b = cond (eqb b 70) Flat Case
 
 -- behind the flag at t stand k groups, "then LF"; "the first is 0, they never fall, the last is the length less 38", which is t
 abbrev pub trailerBy : ℕ → List ℕ → ℕ → Bool
-trailerBy k s t = eqb (getD s (t + 1 + 6 * k) 0) 10 && (eqb (numberOf s t 0) 0 && risingOf k s (t + 1) 0 t)
+trailerBy k s t = eqb (getD s (t + 1 + 6 * k) 0) 10 && (eqb (groupNumber s t 0) 0 && risingOf k s (t + 1) 0 t)
 
 -- 01's trailer; "a break of any of these rules is refusal 2"
 unfoldable pub trailerOf : List ℕ → ℕ → Bool
@@ -74,10 +74,10 @@ indexOf Section.Y = 4
 
 -- a section's bytes stand from its start up to the next start
 abbrev pub sectionStart : Section → List ℕ → ℕ → ℕ
-sectionStart z s t = numberOf s t (indexOf z)
+sectionStart z s t = groupNumber s t (indexOf z)
 
 abbrev pub sectionEnd : Section → List ℕ → ℕ → ℕ
-sectionEnd z s t = numberOf s t (indexOf z + 1)
+sectionEnd z s t = groupNumber s t (indexOf z + 1)
 
 abbrev pub placesOf : List ℕ → ℕ → Places
 placesOf s t = record {

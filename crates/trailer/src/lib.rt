@@ -5,7 +5,7 @@ use starts::AcStart;
 ghost use mathlib.Core.Path.{_≡_};
 ghost use Prim.Native.Nat.{_+_, _*_, _≤_, _<_};
 ghost use lib.ListN.{length};
-ghost use Rattle.trailer.specs.Trailer.{groups, widthOf, trailerLength, trailerStart, groupAt, startAt, numberOf, risingOf, flagged, modeOf, trailerBy, trailerOf, indexOf, sectionStart, sectionEnd, placesOf};
+ghost use Rattle.trailer.specs.Trailer.{groups, widthOf, trailerLength, trailerStart, groupAt, startAt, groupNumber, risingOf, flagged, modeOf, trailerBy, trailerOf, indexOf, sectionStart, sectionEnd, placesOf};
 
 // The groups of a trailer.
 pub const GROUPS: usize = 6;
@@ -70,9 +70,9 @@ fn start_at(s: &[u8], at: usize) -> usize
 }
 
 // The number of group j of the trailer at t, counted from 0.
-fn number_of(s: &[u8], t: usize, j: usize) -> usize
+fn group_number(s: &[u8], t: usize, j: usize) -> usize
     requires { ⌜ t + 1 + 6 * j + 6 ≤ length (now s) ⌝ }
-    ensures { λ r. ⌜ r ≡ numberOf (now (s .entry)) t j ⌝ }
+    ensures { λ r. ⌜ r ≡ groupNumber (now (s .entry)) t j ⌝ }
 {
     start_at(s, t + 1 + 6 * j)
 }
@@ -123,7 +123,7 @@ fn is_trailer_by(s: &[u8], t: usize, k: usize) -> bool
     ensures { λ r. ⌜ r ≡ trailerBy k (now (s .entry)) t ⌝ }
 {
     if s[t + 1 + 6 * k] == b'\n' {
-        if number_of(s, t, 0) == 0 {
+        if group_number(s, t, 0) == 0 {
             return rising(s, t + 1, k, t);
         }
     }
@@ -159,7 +159,7 @@ pub fn start_of(s: &[u8], t: usize, z: Section) -> usize
     requires { ⌜ t + trailerLength ≤ length (now s) ⌝ }
     ensures { λ r. ⌜ r ≡ sectionStart z (now (s .entry)) t ⌝ }
 {
-    number_of(s, t, index(z))
+    group_number(s, t, index(z))
 }
 
 // Where a section ends: at the next start.
@@ -167,7 +167,7 @@ pub fn end_of(s: &[u8], t: usize, z: Section) -> usize
     requires { ⌜ t + trailerLength ≤ length (now s) ⌝ }
     ensures { λ r. ⌜ r ≡ sectionEnd z (now (s .entry)) t ⌝ }
 {
-    number_of(s, t, index(z) + 1)
+    group_number(s, t, index(z) + 1)
 }
 
 // Where the sections of a good text start, and its trailer.

@@ -20,8 +20,8 @@ doubleAt at s = ofBits binary64 (wordOf at s)
 abbrev pub Tells : Bool → Type 0 → Type 0
 Tells b P = (b ≡ true → P) × (P → b ≡ true)
 
-abbrev pub verdictOf : Bool → ℕ
-verdictOf b = cond b 0 1
+abbrev pub agreementOf : Bool → ℕ
+agreementOf b = cond b 0 1
 
 -- what a turn over the input answers: 0 where it agrees, 1 where it differs, more where no whole record is left
 pub record Found (most r : ℕ) (P : Type 0) : Type 0 where

@@ -4,7 +4,7 @@ ghost use mathlib.Core.Path.{_≡_};
 ghost use Prim.Native.Nat.{_+_, _≤_, _<_};
 ghost use lib.ListN.{length};
 ghost use lib.Ieee.{binary64, ofBits};
-ghost use Rattle.vectors.specs.Words.{pairOf, wordOf, doubleAt, Tells, verdictOf};
+ghost use Rattle.vectors.specs.Words.{pairOf, wordOf, doubleAt, Tells, agreementOf};
 
 // A byte as a word.
 pub fn wide(x: u8) -> u64
@@ -73,8 +73,8 @@ pub fn read(fd: i32, s: &mut [u8], n: usize) -> bool
 }
 
 // What a turn over the input answers of a whole record: 0 where it agrees, 1 where it differs.
-pub fn verdict(agrees: bool) -> u64
-    ensures { λ r. ⌜ r ≡ verdictOf agrees ⌝ }
+pub fn agreement(agrees: bool) -> u64
+    ensures { λ r. ⌜ r ≡ agreementOf agrees ⌝ }
 {
     if agrees {
         return 0;

@@ -21,7 +21,7 @@ returns-6 c =
     let d = c .before .before .before .before .before .before .before .before .before .before in
     let m = d .before .before .before in
     let n = m .before .before .before in
-    found-told _ (omega arith) (rw (n .word .ensures, m .word2 .ensures, d .word3 .ensures) at (c .before .point .ensures)) (c .verdict .ensures)
+    found-told _ (omega arith) (rw (n .word .ensures, m .word2 .ensures, d .word3 .ensures) at (c .before .point .ensures)) (c .agreement .ensures)
 
 pub next-spec : {M : Type 1} → statement M
 next-spec =

@@ -15,7 +15,8 @@ use Rattle.real.specs.Tests.{same-or-not, below-or, same-or-below}
 use Rattle.real.specs.Counting.{counted, rising, strictly, growth, met}
 use Rattle.real.specs.Each.{each}
 use Rattle.real.specs.Each.Laws.{length-each, each-at, is-each}
-use Rattle.islands.specs.Islands.{Linked, line, self, back, via, Joined, First, Firsts, none, one, other, Labelled, moved, groupOf, islandOf, lowest, firstOf, tally, isFirst, labelBy, labelOf, labelsOf, labelTable}
+use Rattle.islands.specs.Islands.{Linked, line, self, back, via, Joined, First, Firsts, none, one, other}
+use Rattle.islands.specs.Islands.{Labelled, moved, groupOf, islandOf, lowest, firstOf, tally, isFirst, labelBy, labelOf, labelsOf, labelTable}
 
 pub moved-met : (a b c : ℕ) → c ≡ b → moved a b c ≡ a
 moved-met a b c e = rw (eq-eqb c b e)

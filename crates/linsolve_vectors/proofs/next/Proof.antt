@@ -17,7 +17,7 @@ returns-3 c = no-record (omega arith) (omega arith)
 returns-4 : tie.Need-returns-4
 returns-4 c =
     let word = c .before .before .before .before .before .before .before .before .before .before .before .before .word .ensures in
-    found-told _ (omega arith) (rw (word, c .before .before .word2 .ensures) at (c .before .agrees .ensures)) (c .verdict .ensures)
+    found-told _ (omega arith) (rw (word, c .before .before .word2 .ensures) at (c .before .agrees .ensures)) (c .agreement .ensures)
 
 pub next-spec : {M : Type 1} → statement M
 next-spec =

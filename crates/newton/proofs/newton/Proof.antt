@@ -14,7 +14,8 @@ use Rattle.newton.proofs.newton.Tie as tie
 abbrev Inv-loop : tie.InvT-loop
 Inv-loop y-row y-col y-re y-im layout pd qd pg qg w₀ p₀ m₀ it₀ w p m it =
     (it ≤ 50) × (length w ≡ length w₀)
-    × (stepsFrom (50 - it) it (measuredOf (problem (tripletsOf y-row y-col y-re y-im) layout pd qd pg qg)) (tripletsOf y-row y-col y-re y-im) layout p m w ≡ newtonOf (problem (tripletsOf y-row y-col y-re y-im) layout pd qd pg qg) p₀ w₀)
+    × (stepsFrom (50 - it) it (measuredOf (problem (tripletsOf y-row y-col y-re y-im) layout pd qd pg qg)) (tripletsOf y-row y-col y-re y-im) layout p m w
+    ≡ newtonOf (problem (tripletsOf y-row y-col y-re y-im) layout pd qd pg qg) p₀ w₀)
 
 abbrev μ-loop : tie.MeasureT-loop
 μ-loop y-row y-col y-re y-im layout pd qd pg qg w₀ p₀ m₀ it₀ w p m it = 50 - it
@@ -26,14 +27,16 @@ returns : tie.Need-returns Inv-loop μ-loop
 returns c =
     let i = c .before in
     let t = i .before .before in
-    sym (steps-done _ _ _ _ _ _ _ _ (i .if1 .taken)) ∙ (rw (fuel 50 _ (t .loop-test .taken)) at (t .before .loop .inv .2))
+    sym (steps-done _ _ _ _ _ _ _ _ (i .if1 .taken))
+    ∙ (rw (fuel 50 _ (t .loop-test .taken)) at (t .before .loop .inv .2))
 
 returns-2 : tie.Need-returns-2 Inv-loop μ-loop
 returns-2 c =
     let d = c .before .before .before .before .before .before in
     let i = d .before .before .before in
     let t = i .before .before in
-    sym (steps-singular _ _ _ _ _ _ _ _ (i .if1 .left) _ _ (rw (c .before .before .found .given .1) at (d .direction .ensures))) ∙ (rw (fuel 50 _ (t .loop-test .taken)) at (t .before .loop .inv .2))
+    sym (steps-singular _ _ _ _ _ _ _ _ (i .if1 .left) _ _ (rw (c .before .before .found .given .1) at (d .direction .ensures)))
+    ∙ (rw (fuel 50 _ (t .loop-test .taken)) at (t .before .loop .inv .2))
 
 returns-3 : tie.Need-returns-3 Inv-loop μ-loop
 returns-3 c =
@@ -42,7 +45,8 @@ returns-3 c =
     let d = u .before .before .before .before in
     let i = d .before .before .before in
     let t = i .before .before in
-    sym (steps-stuck _ _ _ _ _ _ _ _ (i .if1 .left) _ (rw (u .enum-told .given .1) at (d .direction .ensures)) _ (s .search .ensures) (not-true _ (c .before .if2 .taken))) ∙ (rw (fuel 50 _ (t .loop-test .taken)) at (t .before .loop .inv .2))
+    sym (steps-stuck _ _ _ _ _ _ _ _ (i .if1 .left) _ (rw (u .enum-told .given .1) at (d .direction .ensures)) _ (s .search .ensures) (not-true _ (c .before .if2 .taken)))
+    ∙ (rw (fuel 50 _ (t .loop-test .taken)) at (t .before .loop .inv .2))
 
 loop-again : tie.Need-loop-again Inv-loop μ-loop
 loop-again c =
@@ -53,7 +57,8 @@ loop-again c =
     let t = i .before .before in (
       omega arith,
       omega arith,
-      sym (steps-on _ _ _ _ _ _ _ _ (i .if1 .left) _ (rw (u .enum-told .given .1) at (d .direction .ensures)) _ (s .search .ensures) (not-false _ (c .before .before .if2 .left))) ∙ (rw (fuel 50 _ (t .loop-test .taken)) at (t .before .loop .inv .2)),
+      sym (steps-on _ _ _ _ _ _ _ _ (i .if1 .left) _ (rw (u .enum-told .given .1) at (d .direction .ensures)) _ (s .search .ensures) (not-false _ (c .before .before .if2 .left)))
+          ∙ (rw (fuel 50 _ (t .loop-test .taken)) at (t .before .loop .inv .2)),
     )
 
 returns-4 : tie.Need-returns-4 Inv-loop μ-loop

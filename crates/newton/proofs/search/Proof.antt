@@ -13,7 +13,8 @@ use Rattle.newton.proofs.search.Tie as tie
 abbrev Inv-loop : tie.InvT-loop
 Inv-loop y-row y-col y-re y-im layout pd qd pg qg p m w alpha₀ k₀ alpha k =
     (k ≤ 12)
-    × (triesFrom (12 - k) (measuredOf (problem (tripletsOf y-row y-col y-re y-im) layout pd qd pg qg)) layout p m w alpha ≡ triesFrom 12 (measuredOf (problem (tripletsOf y-row y-col y-re y-im) layout pd qd pg qg)) layout p m w one)
+    × (triesFrom (12 - k) (measuredOf (problem (tripletsOf y-row y-col y-re y-im) layout pd qd pg qg)) layout p m w alpha
+    ≡ triesFrom 12 (measuredOf (problem (tripletsOf y-row y-col y-re y-im) layout pd qd pg qg)) layout p m w one)
 
 abbrev μ-loop : tie.MeasureT-loop
 μ-loop y-row y-col y-re y-im layout pd qd pg qg p m w alpha₀ k₀ alpha k = 12 - k

@@ -17,7 +17,8 @@ use Rattle.pf_ac.proofs.search.Tie as tie
 abbrev Inv-loop : tie.InvT-loop
 Inv-loop start n kinds y-row y-col y-re y-im pd qd pg qg limits vm-hold first flat w₀ count best₀ i₀ w best i =
     (i ≤ count) × (length w ≡ length w₀)
-    × (searchFrom (count - i) i start (study n (tripletsOf y-row y-col y-re y-im) pd qd pg qg limits vm-hold) kinds first flat best w ≡ searchOf start (study n (tripletsOf y-row y-col y-re y-im) pd qd pg qg limits vm-hold) kinds first flat w₀)
+    × (searchFrom (count - i) i start (study n (tripletsOf y-row y-col y-re y-im) pd qd pg qg limits vm-hold) kinds first flat best w
+    ≡ searchOf start (study n (tripletsOf y-row y-col y-re y-im) pd qd pg qg limits vm-hold) kinds first flat w₀)
 
 abbrev μ-loop : tie.MeasureT-loop
 μ-loop start n kinds y-row y-col y-re y-im pd qd pg qg limits vm-hold first flat w₀ count best₀ i₀ w best i = count - i

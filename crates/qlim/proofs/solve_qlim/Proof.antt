@@ -15,7 +15,8 @@ use Rattle.qlim.proofs.solve_qlim.Tie as tie
 abbrev Inv-loop : tie.InvT-loop
 Inv-loop n y-row y-col y-re y-im pd qd pg qg limits vm-hold w₀ kinds₀ t₀ p₀ round₀ w kinds t p round =
     (round ≤ 11) × (length w ≡ length w₀)
-    × (roundsFrom (11 - round) (study n (tripletsOf y-row y-col y-re y-im) pd qd pg qg limits vm-hold) kinds t p w ≡ roundsFrom 11 (study n (tripletsOf y-row y-col y-re y-im) pd qd pg qg limits vm-hold) kinds₀ t₀ p₀ w₀)
+    × (roundsFrom (11 - round) (study n (tripletsOf y-row y-col y-re y-im) pd qd pg qg limits vm-hold) kinds t p w
+    ≡ roundsFrom 11 (study n (tripletsOf y-row y-col y-re y-im) pd qd pg qg limits vm-hold) kinds₀ t₀ p₀ w₀)
 
 abbrev μ-loop : tie.MeasureT-loop
 μ-loop n y-row y-col y-re y-im pd qd pg qg limits vm-hold w₀ kinds₀ t₀ p₀ round₀ w kinds t p round = 11 - round
@@ -95,7 +96,8 @@ returns-2 c =
     let e = newton-of (end-of m) in
     let k = kinds-of e in
     rw (c .settle2 .ensures)
-    (sym (rounds-still _ _ _ _ _ _ (k .with-kinds .ensures) _ _ (e .newton .ensures) (m .before .before .if1 .left) _ (m .before .moves-at-end .ensures) _ (sym (m .any-move .ensures) ∙ not-true _ (c .before .if2 .taken)))
+    (sym (rounds-still _ _ _ _ _ _ (k .with-kinds .ensures) _ _ (e .newton .ensures) (m .before .before .if1 .left)
+    _ (m .before .moves-at-end .ensures) _ (sym (m .any-move .ensures) ∙ not-true _ (c .before .if2 .taken)))
     ∙ k .before .loop .inv .2 ∙ rounds-begin _ _ _ _ (k .before .before .pin .ensures) _)
 
 -- ---- the last round
@@ -150,7 +152,8 @@ loop-again c =
     let k = kinds-of e in (
       omega (arith, early (n .before)),
       e .newton .kept .1 .1 .1 .1 .1 .1 .1 .1 .1 .1 .0 ∙ k .before .loop .inv .1,
-      sym (rounds-on _ _ _ _ _ _ (k .with-kinds .ensures) _ _ (e .newton .ensures) (m .before .before .if1 .left) _ (m .before .moves-at-end .ensures) _ (sym (m .any-move .ensures) ∙ not-false _ (n .before .before .before .if2 .left)) _ (n .kinds-after .ensures) _ (u .track-after .ensures) _ (c .pin2 .ensures))
+      sym (rounds-on _ _ _ _ _ _ (k .with-kinds .ensures) _ _ (e .newton .ensures) (m .before .before .if1 .left)
+          _ (m .before .moves-at-end .ensures) _ (sym (m .any-move .ensures) ∙ not-false _ (n .before .before .before .if2 .left)) _ (n .kinds-after .ensures) _ (u .track-after .ensures) _ (c .pin2 .ensures))
           ∙ (rw (fuel 11 _ (early (n .before))) at (k .before .loop .inv .2)),
     )
 

@@ -6,7 +6,9 @@ use Rattle.tables.proofs.run.Statement.{statement}
 use Rattle.tables.proofs.run.Tie as tie
 
 ac-pf-with-start-requires : tie.Need-ac-pf-with-start-requires
-ac-pf-with-start-requires c κs = let s = c .before .before .before .before .before .before .before .before .before .before .before .before .before .before .before .before .before .before .before .before .before in (s .pre .0, omega (arith, s .pre .1))
+ac-pf-with-start-requires c κs =
+    let s = c .before .before .before .before .before .before .before .before .before .before .before .before .before .before .before .before .before .before .before .before .before in
+    (s .pre .0, omega (arith, s .pre .1))
 
 returns : tie.Need-returns
 returns c =

@@ -35,7 +35,10 @@ returns c =
     let kl = kg .1 .1 .1 in
     let ky = kl .1 .1 in
     outcome-told _ (width .before .before .args .s .now) is (answered .answered .ensures)
-    (same-told (λ i. busesOf (n (lb .0) (kb .0) i) (x (lb .1 .0) (kb .1 .0) i) (x (lb .1 .1 .0) (kb .1 .1 .0) i) (x (lb .1 .1 .1 .0) (kb .1 .1 .1 .0) i) (x (lb .1 .1 .1 .1 .0) (kb .1 .1 .1 .1 .0) i) (x (lb .1 .1 .1 .1 .1 .0) (kb .1 .1 .1 .1 .1 .0) i) (x (lb .1 .1 .1 .1 .1 .1 .0) (kb .1 .1 .1 .1 .1 .1 .0) i) (x (lb .1 .1 .1 .1 .1 .1 .1 .0) (kb .1 .1 .1 .1 .1 .1 .1 .0) i)) (buses .buses-agree .ensures))
+    (same-told (λ i. busesOf (n (lb .0) (kb .0) i) (x (lb .1 .0) (kb .1 .0) i) (x (lb .1 .1 .0) (kb .1 .1 .0) i)
+    (x (lb .1 .1 .1 .0) (kb .1 .1 .1 .0) i) (x (lb .1 .1 .1 .1 .0) (kb .1 .1 .1 .1 .0) i) (x (lb .1 .1 .1 .1 .1 .0) (kb .1 .1 .1 .1 .1 .0) i)
+    (x (lb .1 .1 .1 .1 .1 .1 .0) (kb .1 .1 .1 .1 .1 .1 .0) i) (x (lb .1 .1 .1 .1 .1 .1 .1 .0) (kb .1 .1 .1 .1 .1 .1 .1 .0) i))
+    (buses .buses-agree .ensures))
     (same-told (λ i. slacksOf (n (lr .0) (kr .0) i) (x (lr .1 .0) (kr .1 .0) i)) (slacks .slacks-agree .ensures))
     (same-told (λ i. generatorsOf (n (lg .0) (kg .0) i) (x (lg .1 .0) (kg .1 .0) i) (x (lg .1 .1 .0) (kg .1 .1 .0) i)) (generators .generators-agree .ensures))
     (same-told (λ i. branchesOf (n (ll .0) (kl .0) i) (n (ll .1 .0) (kl .1 .0) i)) (branches .branches-agree .ensures))

@@ -22,7 +22,7 @@ slice-aggregate-agrees c = sym (length-take-le _ _ (omega arith))
 returns-4 : tie.Need-returns-4
 returns-4 c =
     let pair = c .before .before .before .before .before .before .before .before .before .before .before .before .before .before .before .pair .ensures .0 in
-    found-told _ (omega arith) (rw pair at (c .before .agrees .ensures)) (c .verdict .ensures)
+    found-told _ (omega arith) (rw pair at (c .before .agrees .ensures)) (c .agreement .ensures)
 
 pub next-spec : {M : Type 1} → statement M
 next-spec =

@@ -9,12 +9,12 @@ returns : tie.Need-returns
 returns c =
     let i₂ = c .before in
     let i₁ = i₂ .before .before in
-    rw (eq-eqb _ 10 (i₁ .if1 .taken), eq-eqb _ 0 (sym (i₂ .before .number-of .ensures) ∙ i₂ .if2 .taken)) (c .rising .ensures)
+    rw (eq-eqb _ 10 (i₁ .if1 .taken), eq-eqb _ 0 (sym (i₂ .before .group-number .ensures) ∙ i₂ .if2 .taken)) (c .rising .ensures)
 
 returns-2 : tie.Need-returns-2
 returns-2 c =
     let i₁ = c .before .before in
-    rw (eq-eqb _ 10 (i₁ .if1 .taken), ne-eqb _ 0 (λ e. c .if2 .left (c .before .number-of .ensures ∙ e)))
+    rw (eq-eqb _ 10 (i₁ .if1 .taken), ne-eqb _ 0 (λ e. c .if2 .left (c .before .group-number .ensures ∙ e)))
 
 returns-3 : tie.Need-returns-3
 returns-3 c = rw (ne-eqb _ 10 (c .if1 .left))

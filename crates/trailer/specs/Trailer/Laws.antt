@@ -16,7 +16,7 @@ use Rattle.fields.specs.declared.Digits.{Digits}
 use Rattle.fields.specs.declared.Digits.the-variants as Digits
 use Rattle.rows.specs.declared.Section.{Section}
 use Rattle.rows.specs.declared.Section.the-variants as Section
-use Rattle.trailer.specs.Trailer.{groups, groupAt, startAt, numberOf, risingOf, flagged, trailerBy, trailerOf, indexOf, sectionStart, sectionEnd}
+use Rattle.trailer.specs.Trailer.{groups, groupAt, startAt, groupNumber, risingOf, flagged, trailerBy, trailerOf, indexOf, sectionStart, sectionEnd}
 
 -- ---- the loop over the groups
 
@@ -84,7 +84,7 @@ low-at-most-end (suc k) s at low end h =
 -- what stands behind the flag of a good trailer of k groups
 pub record GoodTrailer (k : ℕ) (s : List ℕ) (t : ℕ) : Type 0 where
   pub end : getD s (t + 1 + 6 * k) 0 ≡ 10
-  pub zero-first : numberOf s t 0 ≡ 0
+  pub zero-first : groupNumber s t 0 ≡ 0
   pub groups-rise : risingOf k s (t + 1) 0 t ≡ true
 
 pub behind-flag : (k : ℕ) (s : List ℕ) (t : ℕ) → trailerBy k s t ≡ true → GoodTrailer k s t
@@ -92,15 +92,15 @@ behind-flag k s t h =
     let f = and-right (eqb (getD s (t + 1 + 6 * k) 0) 10) _ h in
     record {
       end = eqb-true (getD s (t + 1 + 6 * k) 0) 10 (and-left _ _ h);
-      zero-first = eqb-true (numberOf s t 0) 0 (and-left _ _ f);
-      groups-rise = and-right (eqb (numberOf s t 0) 0) _ f;
+      zero-first = eqb-true (groupNumber s t 0) 0 (and-left _ _ f);
+      groups-rise = and-right (eqb (groupNumber s t 0) 0) _ f;
     }
 
 -- the numbers of its groups never fall, none is above the trailer's start, and the last is it
 pub record Rising (k : ℕ) (s : List ℕ) (t : ℕ) : Type 0 where
-  pub never-fall : (j : ℕ) → j + 1 < k → numberOf s t j ≤ numberOf s t (j + 1)
-  pub inside : (j : ℕ) → j < k → numberOf s t j ≤ t
-  pub last : (j : ℕ) → j + 1 ≡ k → numberOf s t j ≡ t
+  pub never-fall : (j : ℕ) → j + 1 < k → groupNumber s t j ≤ groupNumber s t (j + 1)
+  pub inside : (j : ℕ) → j < k → groupNumber s t j ≤ t
+  pub last : (j : ℕ) → j + 1 ≡ k → groupNumber s t j ≡ t
 
 -- where no group is left, the number that they rose to is the last
 none-left : (k : ℕ) (s : List ℕ) (at low end : ℕ) → k ≡ 0 → risingOf k s at low end ≡ true → low ≡ end
@@ -113,7 +113,7 @@ rising k s t w = record {
   last = λ j h. none-left _ s _ _ t (omega arith) (from j (omega arith));
 }
   where
-    from : (j : ℕ) → j < k → risingOf (k - (j + 1)) s (t + 1 + 6 * (j + 1)) (numberOf s t j) t ≡ true
+    from : (j : ℕ) → j < k → risingOf (k - (j + 1)) s (t + 1 + 6 * (j + 1)) (groupNumber s t j) t ≡ true
     from j h = groups-behind k j s (t + 1) 0 t (w .groups-rise) h
 
 -- ---- 01's trailer

@@ -6,7 +6,7 @@ use native.Mathlib.Omega.{arith}
 use borrow.Author.Tests.{eq-eqb, eqb-true, not-true}
 use lib.Dec.{eqb}
 use Rattle.real.specs.Tests.{true-false}
-use Rattle.vectors.specs.Words.{Tells, verdictOf, Found}
+use Rattle.vectors.specs.Words.{Tells, agreementOf, Found}
 
 -- ---- tests
 
@@ -41,7 +41,7 @@ found-agreed p = record { small = omega arith; agreed = λ e. p; differed = λ e
 pub found-differed : {most : ℕ} {P : Type 0} → 1 ≤ most → (P → ⊥) → Found most 1 P
 found-differed k h = record { small = k; agreed = λ e. absurd (omega arith); differed = λ e. h }
 
-pub found-told : {most r : ℕ} {P : Type 0} (b : Bool) → 1 ≤ most → Tells b P → r ≡ verdictOf b → Found most r P
+pub found-told : {most r : ℕ} {P : Type 0} (b : Bool) → 1 ≤ most → Tells b P → r ≡ agreementOf b → Found most r P
 found-told true k t e = rw e (found-agreed (t .0 refl))
 found-told false k t e = rw e (found-differed k (λ p. true-false (t .1 p) refl))
 
