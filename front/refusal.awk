@@ -1,0 +1,143 @@
+# The sentence for people that belongs to a refusal; `refused` is the program's line. Needs bytes.awk, fields.awk and reals.awk.
+BEGIN { then_trailer = "then write the trailer again: ./trailer --again OLD > NEW" }
+
+END {
+    split(refused, part, " ")
+    place = part[2] == 10 ? part[3] : part[3] + 0
+    if (part[2] == 1) wrong_size()
+    else if (part[2] == 2) wrong_trailer()
+    else if (part[2] == 3) wrong_byte()
+    else if (part[2] == 4) wrong_form()
+    else if (part[2] == 5) wrong_field()
+    else if (part[2] == 6) too_many_rows()
+    else if (part[2] == 8) missing_bus()
+    else if (part[2] == 10) not_converged()
+}
+
+function not_plain(    at, seen) {
+    at = first_foreign()
+    if (at == size) return ""
+    split(seen_at(at), seen, ";")
+    locate(at)
+    return " It has " seen[1] " in line " line ", column " column ": is it a case at all?"
+}
+
+function wrong_size() {
+    if (size == 0) print name " is empty: a case has its lines and at the end a trailer, which ./trailer writes"
+    else if (size < 38) print name " has " size " bytes, fewer than a trailer alone: it is cut off, or its trailer is missing; ./trailer F OLD > NEW writes it." not_plain()
+    else print name " has more than 32768 bytes, the most that a case may have: is it one case?" not_plain()
+}
+
+function wrong_trailer(    at, last, seen) {
+    at = first_foreign()
+    if (at < size) {
+        split(seen_at(at), seen, ";")
+        return tell_at(at, seen[1] " can't stand in a case; " seen[2] "; " then_trailer)
+    }
+    at = last_line()
+    last = text(at, line_end(at))
+    if (byte[size - 1] != 10) tell_line(at, "the last line does not end in LF (press Enter behind it once); " then_trailer)
+    else if (last == "") tell_line(at, "an empty line stands behind the trailer; take it out, " then_trailer)
+    else if (last ~ /^[BRGLY] /) tell_line(at, "the last line is no trailer but a line of the network; ./trailer F OLD > NEW writes the trailer (C for F: start from the stored voltages)")
+    else if (last !~ /^[FC]( [0-9][0-9][0-9][0-9][0-9])+$/ || length(last) != 37)
+        tell_line(at, "the last line is no trailer, which is F or C and six numbers of five digits with one space before each; ./trailer F OLD > NEW writes it")
+    else tell_line(at, wrong_start(last) "; was the case edited? Write the trailer again: ./trailer --again OLD > NEW")
+}
+
+# What is wrong with the numbers of a trailer that has the right form.
+function wrong_start(last,    k, start) {
+    split(last, start, " ")
+    if (number(start[2]) != 0) return "the trailer's first number is " start[2] ", and B lines start at 00000"
+    for (k = 3; k <= 7; k++)
+        if (number(start[k]) < number(start[k - 1])) return "the trailer's number " start[k] " is less than the one before it, " start[k - 1]
+    return "the trailer says that it starts at byte " number(start[7]) ", and it starts at byte " (size - 38)
+}
+
+function wrong_byte(    seen) {
+    split(seen_at(place), seen, ";")
+    tell_at(place, seen[1] " can't stand in a case; " seen[2] "; " then_trailer)
+}
+
+# The letter of the section in which a place stands, by the trailer; sets where the section ends.
+function section_at(at,    k, start) {
+    split(text(size - 38, size - 1), start, " ")
+    for (k = 6; number(start[k]) > at; k--);
+    section_end = number(start[k + 1])
+    return substr(letters, k - 1, 1)
+}
+
+function wrong_form(    letter, end, row, count, found) {
+    letter = section_at(place)
+    end = line_end(place)
+    row = text(place, end)
+    found = substr(row, 1, 1)
+    count = split(row, found_fields, " ") - 1
+    if (row == "") return tell_line(place, "the line is empty; take it out, " then_trailer)
+    if (found != letter && index(letters, found)) return tell_line(place, "the trailer has " letter " lines here, and this is " article(found) " line; put the lines in the order B, R, G, L, Y, " then_trailer)
+    if (end >= section_end) return tell_line(place, "the trailer has the " letter " lines end inside this line; " then_trailer)
+    if (found != letter) return tell_line(place, "a line starts with its letter, here " letter "; " then_trailer)
+    if (row ~ / $/) return tell_line(place, "a space stands at the end of the line; take it out, " then_trailer)
+    if (row ~ /  /) return tell_line(place, "two spaces stand side by side; leave one, " then_trailer)
+    if (count != field_count[letter])
+        return tell_line(place, article(letter) " line has " field_count[letter] " fields behind its letter (" field_names[letter] "), and this has " count "; " then_trailer)
+    tell_line(place, "a space is missing behind the letter " letter "; " then_trailer)
+}
+
+function wrong_field(    letter, k, n, end, kind, found) {
+    locate(place)
+    letter = text(line_start, line_start + 1)
+    for (k = line_start; k < place; k++) if (byte[k] == 32) n++
+    for (end = place; byte[end] != 32 && byte[end] != 10; end++);
+    found = text(place, end)
+    kind = field_kind[letter, n]
+    tell_at(place, found " is " (kind == "K" ? "no kind: it is V (voltage given) or Q (power given)" : kind == "N" ? wrong_number(found) : wrong_real(found)) "; mend it, " then_trailer)
+}
+
+function wrong_number(found) {
+    if (found ~ /^0[0-9]+$/) return "no bus number: it may not begin with 0"
+    if (found ~ /^[0-9]+$/) return "no bus number: it has 3 digits at most"
+    return "no bus number: it is 1 to 3 digits and nothing else"
+}
+
+function wrong_real(found,    digits) {
+    digits = found
+    gsub(/[^0-9]/, "", digits)
+    if (found == "?") return "for a stored voltage or angle alone; give a number here"
+    if (found ~ /^-?\./) return "no number: a digit must stand before the point"
+    if (found ~ /\.$/) return "no number: a digit must stand behind the point"
+    if (found ~ /^-?[0-9]+(\.[0-9]+)?$/) return "no number: it has " length(digits) " digits, leading zeros counted, and 15 are the most"
+    return "no number: it is digits, with a minus in front and a point inside where needed"
+}
+
+function too_many_rows(    letter) {
+    letter = section_at(place)
+    tell_line(place, "this is " article(letter) " line too many: a case has at most " table_size[letter] "; leave out or merge parts of the network, " then_trailer)
+}
+
+# The first field in the order of the text that names a bus which is not there, and how many more there are.
+function missing_bus(    at, buses, first, more, row, n, k, field, column_at) {
+    first = -1
+    for (at = 0; at < size - 38; at = line_end(at) + 1) {
+        row = text(at, line_end(at))
+        n = split(row, field, " ")
+        if (field[1] == "B") buses++
+        column_at = at + 2
+        for (k = 2; k <= n; k++) {
+            if (field_kind[field[1], k - 1] == "N" && field[k] + 0 >= buses + 0) {
+                if (first < 0) { first = column_at; missing = field[k] }
+                else more++
+            }
+            column_at += length(field[k]) + 1
+        }
+    }
+    tell_at(first, "there is no bus " missing "; " (buses ? "the buses are 0 to " (buses - 1) ", one for each B line" : "the case has no B line") \
+        (more ? ". " more " more such " (more == 1 ? "field stands" : "fields stand") " below it" : ""))
+}
+
+function not_converged(    mismatch, sentence) {
+    mismatch = real(place)
+    if (mismatch == "inf") sentence = "generators trade limits without end: a bus goes to its limit and back; widen the limits of neighbouring generators, or set their voltages nearer to each other"
+    else if (mismatch == "nan") sentence = "a number grew beyond all bounds; look for a wrong sign or unit"
+    else sentence = "the smallest mismatch left is " short(mismatch) " (solved is below 1e-08); look for too much load, a wrong sign or unit, a missing entry, or a part without a slack bus"
+    print name ": none of " part[4] " starts led to a solution: " sentence
+}

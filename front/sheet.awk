@@ -1,0 +1,130 @@
+# An answer as a sheet: reads the case, then the answer. `csv` asks for CSV, `headed` says that its header line is out already; `base` is the MVA of one per
+# unit where MW and MVAr are asked for. The environment's `name` is the case's. Ends with 2 where the answer is not one of the case.
+# Needs fields.awk, tables.awk and reals.awk.
+BEGIN {
+    name = ENVIRON["name"]
+    scale = base ? base : 1
+    places = base ? 4 : 6
+    degrees = 180 / 3.14159265358979323846
+}
+
+FILENAME == ARGV[1] { next } # tables.awk reads the case
+
+FNR == 1 {
+    if ($1 != "ok" || NF != 3) { wrong = 1; exit }
+    steps = $2
+    mismatch = real($3)
+    next
+}
+
+{
+    b = FNR - 2
+    if (NF != 6 || $1 != b || ($2 == "S") != (b in slack)) { wrong = 1; exit }
+    letter[b] = $2
+    vm[b] = real($3)
+    va[b] = real($4)
+    net_p[b] = real($5)
+    net_q[b] = real($6)
+    answered++
+}
+
+END {
+    if (wrong || answered + 0 != buses + 0) exit 2
+    sum_limits()
+    if (csv) csv_rows()
+    else sheet()
+}
+
+# The sum of two reals, either of which may be a word.
+function plus(x, y) { return is_word(x) ? x : is_word(y) ? y : x + y }
+
+function power(x) { return decimals(is_word(x) ? x : x * scale, places) }
+
+function angle(x) { return decimals(is_word(x) ? x : x * degrees, 6) }
+
+function generated_p(b) { return plus(net_p[b], load_p[b]) }
+
+function generated_q(b) { return plus(net_q[b], load_q[b]) }
+
+# The limits of a bus are those of its generators added up.
+function sum_limits(    k) {
+    for (k = 1; k <= generators; k++) {
+        low[generator_bus[k]] += qmin[k]
+        high[generator_bus[k]] += qmax[k]
+    }
+}
+
+# How far the generated reactive power is above qmin and below qmax; nothing where the bus has no generator.
+function room_down(b) { return b in low ? plus(generated_q(b), -low[b]) : "" }
+
+function room_up(b) { return b in high ? plus(high[b], is_word(net_q[b]) ? net_q[b] : -generated_q(b)) : "" }
+
+# What is to be said of a bus: where it is held, or that it is past a limit which nothing holds it to.
+function remark(b,    q) {
+    if (!(b in low)) return ""
+    q = generated_q(b)
+    if (is_word(q)) return ""
+    if (kind[b] == "V" && letter[b] == "Q") {
+        if (low[b] == high[b]) return "held at qmin = qmax"
+        return (q - low[b]) ^ 2 < (high[b] - q) ^ 2 ? "held at qmin" : "held at qmax"
+    }
+    if (q > high[b] + 1e-6) return "above qmax, not held"
+    if (q < low[b] - 1e-6) return "below qmin, not held"
+    return ""
+}
+
+function limit(list, b) { return b in list ? power(list[b]) : "" }
+
+function room(x) { return x == "" ? "" : power(x) }
+
+function csv_rows(    b, unit, quoted) {
+    unit = base ? "_mw" : "_pu"
+    if (!headed) print "case,bus,kind,vm_pu,va_degrees,load_p" unit ",load_q" var(unit) ",gen_p" unit ",gen_q" var(unit) ",qmin" var(unit) ",room_down" var(unit) \
+        ",qmax" var(unit) ",room_up" var(unit) ",remark"
+    quoted = name
+    if (quoted ~ /[",]/) { gsub(/"/, "\"\"", quoted); quoted = "\"" quoted "\"" }
+    for (b = 0; b < buses; b++)
+        print quoted "," b "," letter[b] "," decimals(vm[b], 6) "," angle(va[b]) "," power(load_p[b]) "," power(load_q[b]) "," power(generated_p(b)) "," \
+            power(generated_q(b)) "," limit(low, b) "," room(room_down(b)) "," limit(high, b) "," room(room_up(b)) "," remark(b)
+}
+
+function var(unit) { return unit == "_mw" ? "_mvar" : unit }
+
+function sheet(    b) {
+    print name ": solved in " steps (steps == 1 ? " step" : " steps") ", largest mismatch " short(mismatch) " per unit"
+    if (!buses) return
+    head("", "", "voltage", "angle", "load P", "load Q", "gen. P", "gen. Q", "qmin", "above it", "qmax", "below it")
+    head("bus", "kind", "p.u.", "degrees", base ? "MW" : "p.u.", var_unit(), base ? "MW" : "p.u.", var_unit(), var_unit(), var_unit(), var_unit(), var_unit())
+    for (b = 0; b < buses; b++) {
+        tell_row(b, letter[b], decimals(vm[b], 6), angle(va[b]), power(load_p[b]), power(load_q[b]), power(generated_p(b)), power(generated_q(b)), limit(low, b),
+            room(room_down(b)), limit(high, b), room(room_up(b)), remark(b))
+        total_load_p = plus(total_load_p, load_p[b])
+        total_load_q = plus(total_load_q, load_q[b])
+        total_p = plus(total_p, generated_p(b))
+        total_q = plus(total_q, generated_q(b))
+    }
+    tell_row("all", "", "", "", power(total_load_p), power(total_load_q), power(total_p), power(total_q))
+    print "generation less load, which lines, transformers and shunts take: P " power(plus(total_p, is_word(total_p) ? total_p : -total_load_p)) \
+        ", Q " power(plus(total_q, is_word(total_q) ? total_q : -total_load_q)) (base ? " (MW, MVAr)" : " (p.u.)")
+    voltage_range()
+}
+
+function var_unit() { return base ? "MVAr" : "p.u." }
+
+function head(bus, k, v, a, lp, lq, gp, gq, qn, down, qx, up) { tell_row(bus, k, v, a, lp, lq, gp, gq, qn, down, qx, up, "") }
+
+function tell_row(bus, k, v, a, lp, lq, gp, gq, qn, down, qx, up, said,    s) {
+    s = sprintf("%4s %4s %9s %11s %10s %10s %10s %10s %10s %10s %10s %10s  %s", bus, k, v, a, lp, lq, gp, gq, qn, down, qx, up, said)
+    sub(/ +$/, "", s)
+    print s
+}
+
+function voltage_range(    b, lowest, highest) {
+    lowest = highest = 0
+    for (b = 0; b < buses; b++) {
+        if (is_word(vm[b])) return
+        if (vm[b] < vm[lowest]) lowest = b
+        if (vm[b] > vm[highest]) highest = b
+    }
+    print "voltages from " decimals(vm[lowest], 6) " (bus " lowest ") to " decimals(vm[highest], 6) " (bus " highest ")"
+}
