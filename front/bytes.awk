@@ -16,6 +16,7 @@ BEGIN {
     known["A0"] = known["C2 A0"] = known["E2 80 AF"] = "a space that does not break;put a plain space in its place"
     known["E2 88 92"] = "a typographic minus;write a plain -"
     known["E2 80 90"] = known["E2 80 91"] = known["E2 80 93"] = known["E2 80 94"] = "a typographic dash;write a plain -"
+    known["FE"] = known["FF"] = "as at the start of a UTF-16 text;save it as plain text"
     known["EF BB BF"] = "a byte order mark;save the text without it"
     name = ENVIRON["name"]
 }
@@ -42,10 +43,18 @@ function line_end(from) {
     return from
 }
 
-# The name of the field at a place of the line that was located, in brackets, or nothing.
-function field_at(at,    letter, k, n) {
-    letter = text(line_start, line_start + 1)
+# The letter of the line that was located, and the number of the field at a place of it.
+function line_letter() { return text(line_start, line_start + 1) }
+
+function field_number(at,    k, n) {
     for (k = line_start; k < at; k++) if (byte[k] == 32) n++
+    return n + 0
+}
+
+# The name of the field at a place of the line that was located, in brackets, or nothing.
+function field_at(at,    letter, n) {
+    letter = line_letter()
+    n = field_number(at)
     return (letter, n) in field_name ? " (" field_name[letter, n] " of the " letter " line)" : ""
 }
 

@@ -29,12 +29,14 @@ proving() { # LOG TOP COMMAND..
     return "$(cat "$work/ended" 2>/dev/null || echo 2)"
 }
 
-# Stops the proof with all its children, and waits until they are gone.
+# Stops the proof with all its children, and waits until they are gone. The signal may come when the proof has only just been started: `proof` is not set
+# then, and the group may not be there yet.
 stop_proof() {
-    kill -s TERM -- "-$proof" 2>/dev/null
+    proof=${!-}
+    kill -s TERM -- "-$proof" 2>/dev/null || kill -s TERM "$proof" 2>/dev/null
     wait "$proof" 2>/dev/null
     for _ in 1 2 3 4 5; do
-        kill -0 -- "-$proof" 2>/dev/null || break
+        kill -s TERM -- "-$proof" 2>/dev/null || break
         sleep 1
     done
     rm -f "$here/.proving"

@@ -66,7 +66,7 @@ function section_at(at,    k, start) {
     return substr(letters, k - 1, 1)
 }
 
-function wrong_form(    letter, end, row, count, found) {
+function wrong_form(    letter, end, row, count, found, found_fields) {
     letter = section_at(place)
     end = line_end(place)
     row = text(place, end)
@@ -83,13 +83,11 @@ function wrong_form(    letter, end, row, count, found) {
     tell_line(place, "a space is missing behind the letter " letter "; " then_trailer)
 }
 
-function wrong_field(    letter, k, n, end, kind, found) {
+function wrong_field(    end, kind, found) {
     locate(place)
-    letter = text(line_start, line_start + 1)
-    for (k = line_start; k < place; k++) if (byte[k] == 32) n++
     for (end = place; byte[end] != 32 && byte[end] != 10; end++);
     found = text(place, end)
-    kind = field_kind[letter, n]
+    kind = field_kind[line_letter(), field_number(place)]
     tell_at(place, found " is " (kind == "K" ? "no kind: it is V (voltage given) or Q (power given)" : kind == "N" ? wrong_number(found) : wrong_real(found)) "; mend it, " then_trailer)
 }
 
@@ -115,7 +113,7 @@ function too_many_rows(    letter) {
 }
 
 # The first field in the order of the text that names a bus which is not there, and how many more there are.
-function missing_bus(    at, buses, first, more, row, n, k, field, column_at) {
+function missing_bus(    at, buses, first, missing, more, row, n, k, field, column_at) {
     first = -1
     for (at = 0; at < size - 38; at = line_end(at) + 1) {
         row = text(at, line_end(at))
