@@ -28,10 +28,9 @@ named() { # CASE
 # Copies a case to $work/text, or says why it can't be had. One byte more than a case may have is enough to know that it is too long.
 take() { # CASE
     if [ "$1" = - ] || [ "$1" = /dev/stdin ]; then
-        head -c $((most + 1)) >"$work/text" 2>/dev/null || { say "standard input could not be read, or $work could not be written"; return 1; }
-        return 0
-    fi
-    if [ -d "$1" ]; then
+        if head -c $((most + 1)) >"$work/text" 2>/dev/null; then return 0; fi
+        say "standard input could not be read, or $work could not be written"
+    elif [ -d "$1" ]; then
         say "$1 is a folder; name a case file in it"
     elif [ ! -e "$1" ]; then
         say "there is no file $1"
@@ -46,19 +45,20 @@ take() { # CASE
 }
 
 # Puts what the program prints of $work/text into $work/answer, and what it is into `verdict`: ok, or refused.
-# The program has no exit status, and an answer that is cut off has no LF at its end.
+# The program has no exit status. So that no answer counts which a full disk has cut off, it must end in LF and have as many lines as belong to it.
 answer() {
-    verdict=''
     run_program <"$work/text" >"$work/answer" 2>"$work/said"
-    case $(tail -c 1 "$work/answer" | wc -l)-$(head -n 1 "$work/answer") in
-        1-ok\ *) verdict=ok ;;
-        1-refused\ *) verdict=refused ;;
-        *)
-            say "the program gave no answer"
-            sed "s/^/$me: it said: /" "$work/said" >&2
-            return 1
-            ;;
+    verdict=$(sed -n '1s/ .*//p' "$work/answer")
+    case $verdict in
+        ok) lines=$(($(grep -c '^B ' "$work/text") + 1)) ;;
+        refused) lines=1 ;;
+        *) lines='' ;;
     esac
+    if [ "$(wc -l <"$work/answer")" != "$lines" ] || [ "$(tail -c 1 "$work/answer" | wc -l)" != 1 ]; then
+        say "the program gave no answer, or not all of it"
+        sed "s/^/$me: it said: /" "$work/said" >&2
+        return 1
+    fi
 }
 
 # The sentence that a refusal has for people, on standard error.

@@ -1,5 +1,6 @@
 # Which program answers: the shipped one where it was made from the sources that stand here, else one that is proved and compiled here.
 # shellcheck shell=sh disable=SC2154
+
 # One sum over all that the program is made from.
 sources_sum() {
     (cd "$here" && find crates crates.txt -type f \( -name '*.rt' -o -name crates.txt \) -exec sha256sum {} + | sort -k 2 | sha256sum | cut -d ' ' -f 1)
@@ -18,7 +19,7 @@ made() { # FOLDER WHAT
 fits() { # FOLDER SUM
     [ -f "$1/solve" ] && [ "$(made "$1" sources)" = "$2" ] && {
         [ "$(made "$1" program)" = "$(sum_of "$1/solve")" ] || {
-            say "$1/solve is not the program that was put there (its sum is another): git checkout dist brings the shipped one back"
+            say "$1/solve is not the program that was put there (its sum is another) and is not used; git checkout dist brings the shipped one back"
             return 1
         }
     }
@@ -26,8 +27,8 @@ fits() { # FOLDER SUM
 
 # Proves and compiles the program and puts it into a folder, with the sum of its sources.
 build() { # FOLDER
-    command -v rt >/dev/null || give_up "the sources here are not those of the shipped program, and rt, the command of the Rattle toolchain that would" \
-        "prove and compile them, is not on the PATH. Put the toolchain there, or take your changes back (git status shows them)"
+    command -v rt >/dev/null || give_up "no program here fits the sources, and rt, the command of the Rattle toolchain that would prove and compile" \
+        "them, is not on the PATH. Put the toolchain there, or take your changes back (git status shows them)"
     mkdir -p "$here/target" 2>/dev/null && [ -w "$here/target" ] || give_up "the program must be built, and $here can't be written"
     before=$(sources_sum)
     say "the program is proved and compiled; this is done once and takes about 8 minutes"
