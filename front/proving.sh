@@ -7,9 +7,9 @@ started_by=tinklehames-proof # the name that a proof's process has
 proving() { # LOG TOP COMMAND..
     log=$1 top=$2
     shift 2
+    crates=$(needed "$top") edits=$(find "$here"/crates/*/must-fail -name '*.edit' 2>/dev/null | wc -l)
     wait_for_other
     rm -rf "$here/target/log" "$here/target/must-fail" "$work/ended"
-    crates=$(needed "$top") edits=$(find "$here"/crates/*/must-fail -name '*.edit' 2>/dev/null | wc -l)
     began=$(date +%s) what=''
     trap 'stop_proof; exit 130' INT
     trap 'stop_proof; exit 143' TERM HUP
@@ -40,15 +40,17 @@ stop_proof() {
         sleep 1
     done
     rm -f "$here/.proving"
+    if [ -t 2 ]; then printf '\n' >&2; fi
     say "stopped, and nothing goes on behind it; call it again when you like"
 }
 
 # A proof goes on where its caller was killed outright: the next caller waits for it.
 wait_for_other() {
     other=$(cat "$here/.proving" 2>/dev/null) || return 0
+    began=$(date +%s) what=''
     while grep -q "$started_by" "/proc/$other/cmdline" 2>/dev/null; do
-        [ -n "${waited-}" ] || say "another call is proving here already (process $other); waiting for it"
-        waited=yes
+        [ -n "$what" ] || say "another call is proving here already (process $other); waiting for it"
+        progress
         sleep 1
     done
 }
