@@ -36,7 +36,7 @@ function wrong_trailer(    at, last, seen) {
     }
     at = last_line()
     last = text(at, line_end(at))
-    if (byte[size - 1] != 10) tell_line(at, "the last line does not end in LF (press Enter behind it once); " then_trailer)
+    if (byte[size - 1] != 10) tell_line(at, "the last line does not end in LF: the text is cut off, or Enter is missing behind it; " then_trailer)
     else if (last == "") tell_line(at, "an empty line stands behind the trailer; take it out, " then_trailer)
     else if (last ~ /^[BRGLY] /) tell_line(at, "the last line is no trailer but a line of the network; ./trailer F OLD > NEW writes the trailer (C for F: start from the stored voltages)")
     else if (last !~ /^[FC]( [0-9][0-9][0-9][0-9][0-9])+$/ || length(last) != 37)

@@ -7,7 +7,7 @@ END {
         split(seen_at(at), seen, ";")
         refuse_at(at, seen[1] " can't stand in a case; " seen[2])
     }
-    if (byte[size - 1] != 10) refuse_at(size, "the last line does not end in LF; press Enter behind it once")
+    if (byte[size - 1] != 10) refuse_at(size, "the last line does not end in LF: the text is cut off, or Enter is missing behind it")
     last = last_line()
     old = text(last, last + 1)
     if (again && byte[last] == 10) refuse_at(last, "the line is empty; take it out")
