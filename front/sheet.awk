@@ -3,7 +3,7 @@
 # Needs fields.awk, tables.awk and reals.awk.
 BEGIN {
     name = ENVIRON["name"]
-    scale = base ? base : 1
+    scale = base ? number(base) : 1
     places = base ? 4 : 6
     degrees = 180 / 3.14159265358979323846
 }
@@ -38,6 +38,8 @@ END {
 # The sum of two reals, either of which may be a word.
 function plus(x, y) { return is_word(x) ? x : is_word(y) ? y : x + y }
 
+function size(x) { return x < 0 ? -x : x }
+
 function power(x) { return decimals(is_word(x) ? x : x * scale, places) }
 
 function angle(x) { return decimals(is_word(x) ? x : x * degrees, 6) }
@@ -66,7 +68,7 @@ function remark(b,    q) {
     if (is_word(q)) return ""
     if (kind[b] == "V" && letter[b] == "Q") {
         if (low[b] == high[b]) return "held at qmin = qmax"
-        return (q - low[b]) ^ 2 < (high[b] - q) ^ 2 ? "held at qmin" : "held at qmax"
+        return size(q - low[b]) < size(high[b] - q) ? "held at qmin" : "held at qmax"
     }
     if (q > high[b] + 1e-6) return "above qmax, not held"
     if (q < low[b] - 1e-6) return "below qmin, not held"
