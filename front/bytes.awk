@@ -1,7 +1,6 @@
 # The bytes of a text, which od prints in decimal, and what they are called. A place is counted from 0, a line and a column from 1. The
 # environment's `name` is the text's name in messages. Needs fields.awk.
 BEGIN {
-    size = 0
     for (code = 32; code < 127; code++) char[code] = sprintf("%c", code)
     known["0D"] = "a CR, as in the line ends of other systems;take all of them out: tr -d '\\r' < OLD > NEW"
     known["09"] = "a tab;put one space in its place"
