@@ -1,10 +1,11 @@
 -- The laws of `stores` and `table`, over any type of element. Assumes nothing.
-use Prim.Native.Nat.{ℕ, zero, suc, _≤_, _<_}
+use Prim.Native.Nat.{ℕ, zero, suc, _+_, _≤_, _<_}
 use mathlib.Core.Path.{_≡_, refl, sym, ap, _∙_}
 use mathlib.Core.Bool.{Bool, true, false, cond}
 use mathlib.Core.List.{List, _∷_}
 use mathlib.Core.Logic.{⊎-elim}
 use native.Mathlib.Nat.{not-suc-le-zero}
+use native.Mathlib.Numerals.{add-one}
 use native.Mathlib.Omega.{arith}
 use borrow.Author.Tests.{eq-eqb, eqb-true, eqb-false, ltb-true, ltb-false}
 use lib.Dec.{eqb, ltb}
@@ -78,3 +79,34 @@ module _ {A : Type 0} where
   unfolding stores
   table-same zero z = refl
   table-same (suc k) z = rw (table-same k z) (same-set 32 k z)
+
+-- ---- loops that count
+
+-- a loop counts to n and is at k: it has made a, which is f k
+pub record Counted {A : Type 0} (f : ℕ → A) (n k : ℕ) (a : A) : Type 0 where
+  pub within : k ≤ n
+  pub so-far : a ≡ f k
+
+-- when it has counted to n it has made f n
+pub counted-all : {A : Type 0} {f : ℕ → A} {n k : ℕ} {a : A} → Counted f n k a → n ≤ k → a ≡ f n
+counted-all {n = n} {k = k} c h = let e : k ≡ n = omega arith in rw (← e) (c .so-far)
+
+-- a loop stores f at the places of l below n and is at k: it has made a
+pub record Stored {A : Type 0} (f : ℕ → A) (l : List A) (n k : ℕ) (a : List A) : Type 0 where
+  pub within : k ≤ n
+  pub so-far : a ≡ stores f k l
+
+module _ {A : Type 0} {f : ℕ → A} {l : List A} {n : ℕ} where
+  -- at first it has made l
+  pub stored-none : Stored f l n 0 l
+  unfolding stores
+  stored-none = record { within = omega arith; so-far = refl }
+
+  -- and with the next place one more is stored
+  pub stored-next : {k : ℕ} {a : List A} {v : A} → Stored f l n k a → k < n → v ≡ f k → Stored f l n (k + 1) (set a k v)
+  unfolding stores
+  stored-next c h e = record { within = omega arith; so-far = rw (add-one, ← c .so-far, e) }
+
+  -- at n it has stored all
+  pub stored-all : {k : ℕ} {a : List A} → Stored f l n k a → n ≤ k → a ≡ stores f n l
+  stored-all {k = k} c h = let e : k ≡ n = omega arith in rw (← e) (c .so-far)
