@@ -15,10 +15,6 @@ Inv-loop n t limits qg ms next₀ b₀ next b = Counted (λ i. trackTo i t limit
 abbrev μ-loop : tie.MeasureT-loop
 μ-loop n t limits qg ms next₀ b₀ next b = n - b
 
-loop-holds : tie.Need-loop-holds Inv-loop μ-loop
-unfolding stores
-loop-holds c = search needs
-
 loop-again : tie.Need-loop-again Inv-loop μ-loop
 unfolding stores
 loop-again c =
@@ -28,10 +24,10 @@ loop-again c =
     record { within = omega arith; so-far = rw (add-one, l .inv .so-far, s .sched-after .ensures, v .converted-after .ensures, c .reverted-after .ensures) }
 
 pub track-after-spec : {M : Type 1} → statement M
-unfolding trackAfter
+unfolding stores trackAfter
 track-after-spec =
     tie.close
-    (tie.spec Inv-loop μ-loop loop-holds (λ c. search needs) (λ c. search needs) (λ c. search needs)
+    (tie.spec Inv-loop μ-loop (λ c. search needs) (λ c. search needs) (λ c. search needs) (λ c. search needs)
     (λ c. search needs) (λ c. search needs) (λ c. search needs) (λ c. search needs) (λ c. search needs) (λ c. search needs) (λ c κs. search needs)
     (λ c. search needs) (λ c. search needs) (λ c. search needs) (λ c κs. search needs) (λ c. search needs) (λ c. search needs) (λ c κs. search needs)
     (λ c. search needs) (λ c. search needs) (λ c. search needs) loop-again (λ c. counted-all (c .before .loop .inv) (omega arith)))
