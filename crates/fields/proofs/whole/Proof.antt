@@ -35,18 +35,10 @@ returns-2 c =
     sym (digits-high (a .s .now) i (a .e) m (omega arith) (omega arith) (c .if2 .taken)) ∙ c .before .before .before .before .loop .inv .2
 
 mul-m : tie.Need-mul-m Inv-loop μ-loop
-mul-m c =
-    let a = c .before .before .before .before .before .args in
-    let i = c .before .before .before .before .loop .i in
-    let m = c .before .before .before .before .loop .m in
-    omega (arith, bound m (a .e - i) (c .before .before .before .before .loop .inv .1))
+mul-m c = omega (arith, bound _ _ (c .before .before .before .before .loop .inv .1))
 
 add-m : tie.Need-add-m Inv-loop μ-loop
-add-m c =
-    let a = c .before .before .before .before .before .args in
-    let i = c .before .before .before .before .loop .i in
-    let m = c .before .before .before .before .loop .m in
-    omega (arith, bound m (a .e - i) (c .before .before .before .before .loop .inv .1))
+add-m c = omega (arith, bound _ _ (c .before .before .before .before .loop .inv .1))
 
 loop-again : tie.Need-loop-again Inv-loop μ-loop
 loop-again c =
