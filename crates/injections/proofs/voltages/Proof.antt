@@ -1,38 +1,29 @@
 -- `injections::voltages` meets its contract: the places passed hold their polar numbers. Assumes nothing.
-use Prim.Native.Nat.{_-_, _≤_}
-use mathlib.Core.Path.{_≡_}
+use Prim.Native.Nat.{_-_}
 use native.Mathlib.Omega.{arith}
-use native.Mathlib.Numerals.{add-one}
 use borrow.Author.Needs.{needs}
+use lib.ListN.{replicate}
 use Rattle.real.specs.Literals.{nought}
-use Rattle.layout.specs.Table.{stores, table}
+use Rattle.layout.specs.Table.Laws.{Stored, stored-none, stored-next, stored-all}
 use Rattle.injections.specs.Injections.{voltageAt, voltagesOf}
 use Rattle.injections.proofs.voltages.Statement.{statement}
 use Rattle.injections.proofs.voltages.Tie as tie
 
 abbrev Inv-loop : tie.InvT-loop
-Inv-loop n vm va re₀ im₀ b₀ re im b = (b ≤ n) × (re ≡ table b nought (λ k. voltageAt vm va k .re)) × (im ≡ table b nought (λ k. voltageAt vm va k .im))
+Inv-loop n vm va re₀ im₀ b₀ re im b = Stored (λ k. voltageAt vm va k .re) (replicate 32 nought) n b re × Stored (λ k. voltageAt vm va k .im) (replicate 32 nought) n b im
 
 abbrev μ-loop : tie.MeasureT-loop
 μ-loop n vm va re₀ im₀ b₀ re im b = n - b
 
-loop-holds : tie.Need-loop-holds Inv-loop μ-loop
-unfolding stores
-loop-holds c = search needs
-
 loop-again : tie.Need-loop-again Inv-loop μ-loop
-unfolding stores
-loop-again c = let s = c .before .before in (omega arith, rw (add-one, ← s .loop .inv .1, c .polar .ensures), rw (add-one, ← s .loop .inv .2, c .polar .ensures))
+loop-again c = let l = c .before .before .loop in (stored-next (l .inv .0) (omega arith) (rw (c .polar .ensures)), stored-next (l .inv .1) (omega arith) (rw (c .polar .ensures)))
 
 returns : tie.Need-returns Inv-loop μ-loop
 unfolding voltagesOf
-returns c =
-    let s = c .before in
-    let e : s .loop .b ≡ s .before .args .n = omega arith in
-    rw (← e, s .loop .inv .1, s .loop .inv .2)
+returns c = let l = c .before .loop in rw (stored-all (l .inv .0) (omega arith), stored-all (l .inv .1) (omega arith))
 
 pub voltages-spec : {M : Type 1} → statement M
 voltages-spec =
     tie.close
-    (tie.spec Inv-loop μ-loop loop-holds (λ c. search needs) (λ c. search needs) (λ c. search needs) (λ c. search needs) (λ c κs. search needs)
+    (tie.spec Inv-loop μ-loop (λ c. (stored-none, stored-none)) (λ c. search needs) (λ c. search needs) (λ c. search needs) (λ c. search needs) (λ c κs. search needs)
     (λ c. search needs) (λ c. search needs) (λ c. search needs) (λ c. search needs) (λ c. search needs) (λ c. search needs) loop-again returns)
