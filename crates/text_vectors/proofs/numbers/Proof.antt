@@ -1,39 +1,22 @@
 -- `text_vectors::numbers` meets its contract. The invariant: every place passed holds what is told. Assumes nothing.
-use mathlib.Core.Path.{_≡_, sym, _∙_}
-use Prim.Native.Nat.{ℕ, _-_, _≤_, _<_}
+use mathlib.Core.Path.{sym, _∙_}
+use Prim.Native.Nat.{_-_}
 use native.Mathlib.Omega.{arith}
-use borrow.Author.Count.{below-more}
-use lib.ListN.{getD}
 use Rattle.vectors.specs.Words.Laws.{never-told}
 use Rattle.text_vectors.specs.Told.{wordTold}
-use Rattle.text_vectors.proofs.Telling.{told-at, places-told}
+use Rattle.text_vectors.proofs.Telling.{told-at, Agreed, agreed-none, agreed-next, agreed-all}
 use Rattle.text_vectors.proofs.numbers.Statement.{statement}
 use Rattle.text_vectors.proofs.numbers.Tie as tie
 
 abbrev Inv-loop : tie.InvT-loop
-Inv-loop s j own col n i₀ i = (i ≤ n) × ((k : ℕ) → k < i → getD col k 0 ≡ wordTold s j k)
-
-abbrev μ-loop : tie.MeasureT-loop
-μ-loop s j own col n i₀ i = n - i
-
-loop-holds : tie.Need-loop-holds Inv-loop μ-loop
-loop-holds c = (omega arith, λ k h. absurd (omega arith))
-
-returns : tie.Need-returns Inv-loop μ-loop
-returns c =
-    let width = c .before .before .before .before .before .width .ensures .0 in
-    never-told (λ e. c .if1 .taken (told-at 0 width _ _ e _ (omega arith) ∙ sym (c .before .told .ensures)))
-
-loop-again : tie.Need-loop-again Inv-loop μ-loop
-loop-again c =
-    let s = c .before .before .before .before in
-    (omega arith, below-more _ _ (s .loop .inv .1) (c .if1 .left ∙ c .before .told .ensures))
-
-returns-2 : tie.Need-returns-2 Inv-loop μ-loop
-returns-2 c = places-told 0 (c .before .before .width .ensures .0) _ _ (omega arith) (λ i h. c .before .loop .inv .1 i (omega arith))
+Inv-loop s j own col n i₀ i = Agreed 0 col (wordTold s j) n i
 
 pub numbers-spec : {M : Type 1} → statement M
 numbers-spec =
     tie.close
-    (tie.spec Inv-loop μ-loop (λ c κs. omega arith) loop-holds (λ c. omega arith) (λ c. omega arith) (λ c κs. omega arith) returns (λ c. omega arith)
-    (λ c. omega arith) loop-again returns-2)
+    (tie.spec Inv-loop (λ s j own col n i₀ i. n - i) (λ c κs. omega arith) (λ c. agreed-none) (λ c. omega arith) (λ c. omega arith)
+    (λ c κs. omega arith)
+    (λ c. never-told (λ e. c .if1 .taken (told-at 0 (c .before .before .before .before .before .width .ensures .0) _ _ e _ (omega arith) ∙ sym (c .before .told .ensures))))
+    (λ c. omega arith) (λ c. omega arith)
+    (λ c. agreed-next (c .before .before .before .before .loop .inv) (omega arith) (c .if1 .left ∙ c .before .told .ensures))
+    (λ c. agreed-all (c .before .loop .inv) (omega arith) (c .before .before .width .ensures .0) (omega arith)))
