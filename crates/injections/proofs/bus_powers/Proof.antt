@@ -27,14 +27,12 @@ loop-again c =
       stored-next (l .inv .1) (omega arith) (rw (c .product .ensures, v, against, i)),
     )
 
-returns : tie.Need-returns Inv-loop μ-loop
-unfolding injectedOf
-returns c = let l = c .before .loop in rw (stored-all (l .inv .0) (omega arith), stored-all (l .inv .1) (omega arith))
-
 pub bus-powers-spec : {M : Type 1} → statement M
+unfolding injectedOf
 bus-powers-spec =
     tie.close
     (tie.spec Inv-loop μ-loop (λ c. (stored-none, stored-none)) (λ c. search needs) (λ c. search needs) (λ c. search needs) (λ c. search needs) (λ c κs. search needs)
     (λ c κs. search needs) (λ c. search needs) (λ c. search needs) (λ c. search needs) (λ c. search needs) (λ c κs. search needs)
     (λ c κs. search needs) (λ c. search needs) (λ c. search needs) (λ c. search needs) (λ c. search needs) (λ c. search needs) (λ c. search needs)
-    loop-again returns)
+    loop-again
+    (λ c. let l = c .before .loop in rw (stored-all (l .inv .0) (omega arith), stored-all (l .inv .1) (omega arith))))

@@ -18,12 +18,10 @@ abbrev μ-loop : tie.MeasureT-loop
 loop-again : tie.Need-loop-again Inv-loop μ-loop
 loop-again c = let l = c .before .before .loop in (stored-next (l .inv .0) (omega arith) (rw (c .polar .ensures)), stored-next (l .inv .1) (omega arith) (rw (c .polar .ensures)))
 
-returns : tie.Need-returns Inv-loop μ-loop
-unfolding voltagesOf
-returns c = let l = c .before .loop in rw (stored-all (l .inv .0) (omega arith), stored-all (l .inv .1) (omega arith))
-
 pub voltages-spec : {M : Type 1} → statement M
+unfolding voltagesOf
 voltages-spec =
     tie.close
     (tie.spec Inv-loop μ-loop (λ c. (stored-none, stored-none)) (λ c. search needs) (λ c. search needs) (λ c. search needs) (λ c. search needs) (λ c κs. search needs)
-    (λ c. search needs) (λ c. search needs) (λ c. search needs) (λ c. search needs) (λ c. search needs) (λ c. search needs) loop-again returns)
+    (λ c. search needs) (λ c. search needs) (λ c. search needs) (λ c. search needs) (λ c. search needs) (λ c. search needs) loop-again
+    (λ c. let l = c .before .loop in rw (stored-all (l .inv .0) (omega arith), stored-all (l .inv .1) (omega arith))))

@@ -26,14 +26,12 @@ loop-again c =
     let l = m .before .before .before .before .loop in
     (stored-next (l .inv .0) (omega arith) (m .magnitude-for .ensures), stored-next (l .inv .1) (omega arith) (rw (← s .slack-angle .ensures) (c .angle-for .ensures)))
 
-returns : tie.Need-returns Inv-loop μ-loop
-unfolding caseOf
-returns c = let l = c .before .loop in rw (stored-all (l .inv .0) (omega arith), stored-all (l .inv .1) (omega arith))
-
 pub case-start-spec : {M : Type 1} → statement M
+unfolding caseOf
 case-start-spec =
     tie.close
     (tie.spec Inv-loop μ-loop (λ c. (stored-none, stored-none)) (λ c. search needs) (λ c. search needs) (λ c. search needs) (λ c. search needs) (λ c κs. search needs)
     (λ c. search needs) (λ c. search needs) (λ c. search needs) (λ c. search needs) slack-angle-requires (λ c. search needs) (λ c. search needs)
     (λ c. search needs) (λ c. search needs) (λ c κs. search needs) (λ c. search needs) (λ c. search needs) (λ c. search needs) (λ c. search needs)
-    loop-again returns)
+    loop-again
+    (λ c. let l = c .before .loop in rw (stored-all (l .inv .0) (omega arith), stored-all (l .inv .1) (omega arith))))

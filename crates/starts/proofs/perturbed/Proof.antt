@@ -25,13 +25,11 @@ loop-again c =
     let l = s .before .before .before .before .loop in
     (stored-next (l .inv .0) (omega arith) (s .scale .ensures), stored-next (l .inv .1) (omega arith) (c .nudge .ensures))
 
-returns : tie.Need-returns Inv-loop μ-loop
-unfolding perturbedOf
-returns c = let l = c .before .loop in rw (stored-all (l .inv .0) (omega arith), stored-all (l .inv .1) (omega arith))
-
 pub perturbed-spec : {M : Type 1} → statement M
+unfolding perturbedOf
 perturbed-spec =
     tie.close
     (tie.spec Inv-loop μ-loop (λ c. (stored-none, stored-none)) (λ c. search needs) (λ c. search needs) (λ c. search needs) (λ c κs. search needs) (λ c. search needs)
     (λ c. search needs) (λ c. search needs) (λ c. search needs) (λ c κs. search needs) (λ c. search needs) (λ c. search needs) (λ c. search needs)
-    (λ c. search needs) loop-again returns)
+    (λ c. search needs) loop-again
+    (λ c. let l = c .before .loop in rw (stored-all (l .inv .0) (omega arith), stored-all (l .inv .1) (omega arith))))
