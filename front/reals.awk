@@ -14,6 +14,9 @@ function real(s,    i, high, power, part) {
     return high < 2048 ? part : -part
 }
 
+# Whether s is a real as the program prints it.
+function is_printed(s) { return s == "nan" || (length(s) == 16 && s !~ /[^0-9a-f]/) }
+
 function is_word(x) { return x == "nan" || x == "inf" || x == "-inf" }
 
 # x with the given decimals. Words stay as they are, and nothing is shown as minus zero.

@@ -4,7 +4,8 @@ BEGIN { then_trailer = "then write the trailer again: ./trailer --again OLD > NE
 END {
     split(refused, part, " ")
     place = part[2] == 10 ? part[3] : part[3] + 0
-    if (part[2] == 1) wrong_size()
+    if (part[2] ~ /^[23456]$/ && place >= size) print name ": the refusal is not one of this case"
+    else if (part[2] == 1) wrong_size()
     else if (part[2] == 2) wrong_trailer()
     else if (part[2] == 3) wrong_byte()
     else if (part[2] == 4) wrong_form()
@@ -85,7 +86,7 @@ function wrong_form(    letter, end, row, count, found, found_fields) {
 
 function wrong_field(    end, kind, found) {
     locate(place)
-    for (end = place; byte[end] != 32 && byte[end] != 10; end++);
+    for (end = place; end < size && byte[end] != 32 && byte[end] != 10; end++);
     found = text(place, end)
     kind = field_kind[line_letter(), field_number(place)]
     tell_at(place, found " is " (kind == "K" ? "no kind: it is V (voltage given) or Q (power given)" : kind == "N" ? wrong_number(found) : wrong_real(found)) "; mend it, " then_trailer)
@@ -128,7 +129,8 @@ function missing_bus(    at, buses, first, missing, more, row, n, k, field, colu
             column_at += length(field[k]) + 1
         }
     }
-    tell_at(first, "there is no bus " missing "; " (buses ? "the buses are 0 to " (buses - 1) ", one for each B line" : "the case has no B line") \
+    if (first < 0) print name ": the refusal is not one of this case"
+    else tell_at(first, "there is no bus " missing "; " (buses ? "the buses are 0 to " (buses - 1) ", one for each B line" : "the case has no B line") \
         (more ? ". " more " more such " (more == 1 ? "field stands" : "fields stand") " below it" : ""))
 }
 

@@ -11,7 +11,7 @@ BEGIN {
 FILENAME == ARGV[1] { next } # tables.awk reads the case
 
 FNR == 1 {
-    if ($1 != "ok" || NF != 3) { wrong = 1; exit }
+    if ($1 != "ok" || NF != 3 || !is_printed($3)) { wrong = 1; exit }
     steps = $2
     mismatch = real($3)
     next
@@ -19,7 +19,8 @@ FNR == 1 {
 
 {
     b = FNR - 2
-    if (NF != 6 || $1 != b || ($2 == "S") != (b in slack)) { wrong = 1; exit }
+    if (NF != 6 || $1 != b || $2 !~ /^[SVQ]$/ || ($2 == "S") != (b in slack)) { wrong = 1; exit }
+    for (k = 3; k <= 6; k++) if (!is_printed($k)) { wrong = 1; exit }
     letter[b] = $2
     vm[b] = real($3)
     va[b] = real($4)
