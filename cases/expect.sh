@@ -2,8 +2,10 @@
 # which set `top`, the folder of the checkout, and `here`, a folder of their own that is removed at the end.
 # shellcheck shell=sh disable=SC2154
 same=0 different=0 skipped=0
+lf='
+'
 
-# Runs COMMAND. Its status must be STATUS, its standard output must begin with OUT, and its standard error must hold ERR (where ERR is empty, be empty).
+# Runs COMMAND. Its status must be STATUS, its standard output must begin with OUT, and its standard error must hold ERR (where either is empty, be empty).
 expect() { # TITLE STATUS OUT ERR COMMAND..
     title=$1 status=$2 out=$3 err=$4
     shift 4
@@ -13,7 +15,7 @@ expect() { # TITLE STATUS OUT ERR COMMAND..
     [ "$got" = "$status" ] || wrong="$wrong status $got, not $status;"
     case $(cat "$here/out") in "$out"*) ;; *) wrong="$wrong standard output: $(head -n 3 "$here/out")" ;; esac
     [ -n "$out" ] || [ ! -s "$here/out" ] || wrong="$wrong standard output: $(head -n 3 "$here/out")"
-    case $(cat "$here/err") in *"$err"*) ;; *) wrong="$wrong standard error: $(cat "$here/err")" ;; esac
+    case $(cat "$here/err")$lf in *"$err"*) ;; *) wrong="$wrong standard error: $(cat "$here/err")" ;; esac
     [ -n "$err" ] || [ ! -s "$here/err" ] || wrong="$wrong standard error: $(cat "$here/err")"
     result "$title" "$wrong"
 }

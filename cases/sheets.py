@@ -52,7 +52,9 @@ def rows(name, base, places):
 
 def remark(given, kind, q, low, high):
     if given == "V" and kind == "Q":
-        return "held at qmin" if q - low < high - q else "held at qmax"
+        return "held at qmin" if abs(q - low) < abs(high - q) else "held at qmax"
+    if kind == "V":
+        return ""
     return "above qmax, not held" if q > high + Fraction(1, 10 ** 6) else "below qmin, not held" if q < low - Fraction(1, 10 ** 6) else ""
 
 

@@ -2,7 +2,6 @@
 # shellcheck shell=sh disable=SC2154
 LC_ALL=C # a length is in bytes, a decimal has a point, and letters sort by their bytes
 export LC_ALL
-work=''
 most=32768 # bytes of a case
 
 say() { printf '%s\n' "$me: $*" >&2; }
@@ -14,10 +13,10 @@ give_up() {
 
 # A folder of our own for what is worked on, removed at the end, however that comes.
 open_work() {
+    work=$(mktemp -d) || give_up "no folder for temporary files can be made in ${TMPDIR:-/tmp}"
     trap 'rm -rf "$work"' EXIT
     trap 'exit 130' INT
     trap 'exit 143' TERM HUP
-    work=$(mktemp -d) || give_up "no folder for temporary files can be made in ${TMPDIR:-/tmp}"
 }
 
 # As messages name a case.

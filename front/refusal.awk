@@ -76,7 +76,7 @@ function wrong_form(    letter, end, row, count, found, found_fields) {
     if (row == "") return tell_line(place, "the line is empty; take it out, " then_trailer)
     if (found != letter && index(letters, found)) return tell_line(place, "the trailer has " letter " lines here, and this is " article(found) " line; put the lines in the order B, R, G, L, Y, " then_trailer)
     if (end >= section_end) return tell_line(place, "the trailer has the " letter " lines end inside this line; " then_trailer)
-    if (found != letter) return tell_line(place, "a line starts with its letter, here " letter "; " then_trailer)
+    if (found != letter) return tell_line(place, "the trailer has " letter " lines here, and a line starts with its letter; put it there, " then_trailer)
     if (row ~ / $/) return tell_line(place, "a space stands at the end of the line; take it out, " then_trailer)
     if (row ~ /  /) return tell_line(place, "two spaces stand side by side; leave one, " then_trailer)
     if (count != field_count[letter])

@@ -64,9 +64,8 @@ function room_up(b) { return b in high ? plus(high[b], is_word(net_q[b]) ? net_q
 
 # What is to be said of a bus: where it is held, or that it is past a limit which nothing holds it to.
 function remark(b,    q) {
-    if (!(b in low)) return ""
     q = generated_q(b)
-    if (is_word(q)) return ""
+    if (!(b in low) || letter[b] == "V" || is_word(q)) return ""
     if (kind[b] == "V" && letter[b] == "Q") {
         if (low[b] == high[b]) return "held at qmin = qmax"
         return size(q - low[b]) < size(high[b] - q) ? "held at qmin" : "held at qmax"
