@@ -136,7 +136,7 @@ function missing_bus(    at, buses, first, missing, more, row, n, k, field, colu
 
 function not_converged(    mismatch, sentence) {
     mismatch = real(place)
-    if (mismatch == "inf") sentence = "generators trade limits without end: a bus goes to its limit and back; widen the limits of neighbouring generators, or set their voltages nearer to each other"
+    if (mismatch == "inf") sentence = "in twelve rounds the generators did not settle: one bus after another reached a limit or left it; widen the limits, or set the voltages nearer to each other"
     else if (mismatch == "nan") sentence = "a number grew beyond all bounds; look for a wrong sign or unit"
     else sentence = "the smallest mismatch left is " short(mismatch) " (solved is below 1e-08); look for too much load, a wrong sign or unit, a missing entry, or a part without a slack bus"
     print name ": none of " part[4] " starts led to a solution: " sentence

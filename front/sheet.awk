@@ -72,7 +72,6 @@ function remark(b,    q) {
     }
     if (q > high[b] + 1e-6) return "above qmax, not held"
     if (q < low[b] - 1e-6) return "below qmin, not held"
-    return ""
 }
 
 function limit(list, b) { return b in list ? power(list[b]) : "" }
