@@ -1,19 +1,28 @@
 # The sentence for people that belongs to a refusal; `refused` is the program's line. Needs bytes.awk, fields.awk and reals.awk.
-BEGIN { then_trailer = "then write the trailer again: ./trailer --again OLD > NEW" }
+BEGIN {
+    then_trailer = "then write the trailer again: ./trailer --again OLD > NEW"
+    # the lines of which a refusal gives the row
+    naming[8] = "R"
+    naming[11] = "G"
+    naming[12] = "L"
+    naming[13] = "Y"
+}
 
 END {
     split(refused, part, " ")
     place = part[2] == 10 ? part[3] : part[3] + 0
-    if (part[2] ~ /^[23456]$/ && place >= size) print name ": the refusal is not one of this case"
+    if (part[2] ~ /^[23456]$/ && place >= size) print_other_case()
     else if (part[2] == 1) wrong_size()
     else if (part[2] == 2) wrong_trailer()
     else if (part[2] == 3) wrong_byte()
     else if (part[2] == 4) wrong_form()
     else if (part[2] == 5) wrong_field()
     else if (part[2] == 6) too_many_rows()
-    else if (part[2] == 8) missing_bus()
+    else if (part[2] in naming) missing_bus(naming[part[2]], part[3] + 0, part[4] + 0)
     else if (part[2] == 10) not_converged()
 }
+
+function print_other_case() { print name ": the refusal is not one of this case" }
 
 function not_plain(    at, seen) {
     at = first_foreign()
@@ -59,12 +68,17 @@ function wrong_byte(    seen) {
     tell_at(place, seen[1] " can't stand in a case; " seen[2] "; " then_trailer)
 }
 
-# The letter of the section in which a place stands, by the trailer; sets where the section ends.
-function section_at(at,    k, start) {
+# Where the section of a letter starts, by the trailer; sets where it ends.
+function section_start(letter,    start) {
     split(text(size - 38, size - 1), start, " ")
-    for (k = 6; number(start[k]) > at; k--);
-    section_end = number(start[k + 1])
-    return substr(letters, k - 1, 1)
+    section_end = number(start[index(letters, letter) + 2])
+    return number(start[index(letters, letter) + 1])
+}
+
+# The letter of the section in which a place stands; sets where the section ends.
+function section_at(at,    k) {
+    for (k = length(letters); section_start(substr(letters, k, 1)) > at; k--);
+    return substr(letters, k, 1)
 }
 
 function wrong_form(    letter, end, row, count, found, found_fields) {
@@ -113,25 +127,16 @@ function too_many_rows(    letter) {
     tell_line(place, "this is " article(letter) " line too many: a case has at most " table_size[letter] "; leave out or merge parts of the network, " then_trailer)
 }
 
-# The first field in the order of the text that names a bus which is not there, and how many more there are.
-function missing_bus(    at, buses, first, missing, more, row, n, k, field, column_at) {
-    first = -1
-    for (at = 0; at < size - 38; at = line_end(at) + 1) {
-        row = text(at, line_end(at))
-        n = split(row, field, " ")
-        if (field[1] == "B") buses++
-        column_at = at + 2
-        for (k = 2; k <= n; k++) {
-            if (field_kind[field[1], k - 1] == "N" && field[k] + 0 >= buses + 0) {
-                if (first < 0) { first = column_at; missing = field[k] }
-                else more++
-            }
-            column_at += length(field[k]) + 1
-        }
-    }
-    if (first < 0) print name ": the refusal is not one of this case"
-    else tell_at(first, "there is no bus " missing "; " (buses ? "the buses are 0 to " (buses - 1) ", one for each B line" : "the case has no B line") \
-        (more ? ". " more " more such " (more == 1 ? "field stands" : "fields stand") " below it" : ""))
+# The program tells the row and the field; this adds the file, the line and the number that stands there.
+function missing_bus(letter, row, field,    at, k, found, buses) {
+    for (at = section_start("B"); at < section_end; at = line_end(at) + 1) buses++
+    at = section_start(letter)
+    for (k = 0; k < row && at < section_end; k++) at = line_end(at) + 1
+    split(text(at, line_end(at)), found, " ")
+    if (at >= section_end || field_kind[letter, field + 1] != "N" || found[field + 2] + 0 < buses + 0) return print_other_case()
+    tell_at(at + 2 + (field ? length(found[2]) + 1 : 0), "there is no bus " found[field + 2] "; " \
+        (buses > 1 ? "the buses are 0 to " (buses - 1) ", one for each B line" : buses ? "the only bus is 0" : "the case has no B line") \
+        "; mend the number or give the bus its B line, " then_trailer)
 }
 
 function not_converged(    mismatch, sentence) {

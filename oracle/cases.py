@@ -61,11 +61,13 @@ def samples():
 
 
 def texts(seed, count):
-    """Each round: a network of the next size from 1 to 32, a large text, and one of each other slot."""
-    rng = random.Random(seed)
+    """Each round: a network of the next size from 1 to 32, a large text, one of each other slot, and two that name a missing bus. These have a random source
+    of their own, so that they change no other text."""
+    rng, other = random.Random(seed), random.Random(f"missing {seed}")
     out, k = [], 0
     while len(out) < count:
         drawn = [f.sized(rng, 1 + k % 32), LARGE[k % len(LARGE)](rng)] + [family(rng) for family in ROUND]
+        drawn += [f.missing(other, 2 * k), f.missing(other, 2 * k + 1)]
         out += [c if isinstance(c, bytes) else c.text() for c in drawn]
         k += 1
     return out[:count]
@@ -156,10 +158,29 @@ def run_classes(text, answer, m):
     }
 
 
+def missing_classes(text, number):
+    """Where the refusal is one of f.NAMING: which row and field it names, and what else names a missing bus."""
+    buses, *named = tables(text) if number in f.NAMING else [[]] * 5
+    found = {}
+    for (table, (_, fields, _)), rows in zip(f.NAMING.items(), named):
+        faults = [[field for field in range(fields) if int(cells[field]) >= len(buses)] for cells in rows]
+        at = [row for row, wrong in enumerate(faults) if wrong]
+        here, row, wrong = (number == table, at[0], faults[at[0]]) if at else (False, 0, [])
+        for place, met in (("the first row", row == 0), ("a row between", 0 < row < len(rows) - 1), ("the last row", row == len(rows) - 1)):
+            found.update({f"refused {table} at {place}, field {k}": here and met and wrong[0] == k for k in range(fields)})
+        if fields == 2:
+            found[f"refused {table} with both fields at fault"] = here and len(wrong) == 2
+        found[f"refused {table} with a later row at fault"] = here and len(at) > 1
+        found[f"refused {table} with no bus"] = here and not buses
+        found.update({f"refused {first} with {table} at fault too": number == first and bool(at) for first in f.NAMING if first < table})
+    return found
+
+
 def refusal_classes(text, answer):
     """Refusals before the first start. A text never meets 7 and 9: the reader gives columns of one length, and the program lends enough."""
     number, place = (answer.split() + [b"0"])[1:3]
-    found = {f"refused {k}": number == b"%d" % k for k in (2, 3, 4, 5, 8)}
+    found = {f"refused {k}": number == b"%d" % k for k in (2, 3, 4, 5, *f.NAMING)}
+    found.update(missing_classes(text, int(number)))
     found["refused 1, short"] = number == b"1" and len(text) < 38
     found["refused 1, long"] = number == b"1" and len(text) > 32768
     section = [letter for letter, start in zip(f.SIZES, starts(text)) if start <= int(place)][-1] if number == b"6" else ""

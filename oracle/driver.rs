@@ -1,5 +1,5 @@
 
-// ---- the driver: case texts in, the solve program's answers out. The text is read by rules written here from document 01 a second time.
+// ---- the driver: case texts in, the solve program's answers out. The text is read by rules written here from documents 01 and 02 a second time.
 
 use std::io::{Read, Write};
 
@@ -143,15 +143,28 @@ fn printed(x: f64) -> String {
     if x.is_nan() { "nan".to_owned() } else { format!("{:016x}", x.to_bits()) }
 }
 
+// Request 1 of document 02: 8, 11, 12, 13 in that order, each with the lowest row of its table that names a missing bus; a branch and a triplet also name
+// their first field at fault.
+fn missing_bus(net: &AcNetwork) -> Option<String> {
+    let missing = |b: &usize| *b >= net.n;
+    let row = |number: u8, column: &[usize]| column.iter().position(missing).map(|row| format!("refused {number} {row}\n"));
+    let field = |number: u8, pairs: Vec<[usize; 2]>| {
+        let at = pairs.iter().position(|pair| pair.iter().any(missing))?;
+        Some(format!("refused {number} {at} {}\n", pairs[at].iter().position(missing)?))
+    };
+    row(8, &net.slacks)
+        .or_else(|| row(11, &net.gen_bus))
+        .or_else(|| field(12, net.br_from.iter().zip(&net.br_to).map(|(&f, &t)| [f, t]).collect()))
+        .or_else(|| field(13, net.triplets.iter().map(|&(i, k, _)| [i, k]).collect()))
+}
+
 pub fn answer(text: &[u8]) -> String {
     let (net, start) = match read(text) {
         Err((number, place)) => return format!("refused {number} {place}\n"),
         Ok(read) => read,
     };
-    let ends = net.br_from.iter().chain(&net.br_to);
-    let named = net.slacks.iter().chain(&net.gen_bus).chain(ends);
-    if named.chain(net.triplets.iter().flat_map(|(i, k, _)| [i, k])).any(|&b| b >= net.n) {
-        return "refused 8\n".to_owned();
+    if let Some(refusal) = missing_bus(&net) {
+        return refusal;
     }
     match ac_pf_with_start(&AcPolar, &net, start) {
         Err((mismatch, starts)) => format!("refused 10 {} {starts}\n", printed(mismatch)),

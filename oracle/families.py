@@ -399,6 +399,36 @@ def beyond(rng):
     return c
 
 
+# The tables whose rows name buses, by their refusal: the rows of a case, how many bus numbers a row begins with, and a row.
+NAMING = {8: ("slacks", 1, [0, 0]), 11: ("gens", 1, [0, -1, 1]), 12: ("lines", 2, [0, 0]), 13: ("triplets", 2, [0, 0, 2, -8])}
+
+# What is at fault: by table the rows and their fields. Row -1 is the last one, row 1 one in between.
+FAULTS = [{table: [(row, field)]} for table, (_, fields, _) in NAMING.items() for row in (0, 1, -1) for field in range(fields)]
+FAULTS += [{table: [(row, 0), (row, 1)]} for table in (12, 13) for row in (0, 1, -1)]
+FAULTS += [{table: [(1, fields - 1), (-1, 0)]} for table, (_, fields, _) in NAMING.items()]
+FAULTS += [{first: [(-1, 0)], second: [(0, 0)]} for first in NAMING for second in NAMING if first < second]
+FAULTS += [dict.fromkeys(NAMING, [(1, 0)])]
+
+
+def missing(rng, k):
+    """A network in which the rows of the k-th of FAULTS name a bus that is not there. After the last of them: rows of one table and no bus."""
+    k %= len(FAULTS) + len(NAMING)
+    if k >= len(FAULTS):
+        name, _, row = list(NAMING.values())[k - len(FAULTS)]
+        c = Case("F", [], [], [], [], [])
+        getattr(c, name).extend([row] * 3)
+        return c
+    c = network(rng, [rng.randrange(3, 7)], 0.5)
+    n = len(c.buses)
+    c.slacks = [[rng.randrange(n), 0.0] for _ in range(rng.randrange(3, 6))]
+    c.gens = [[rng.randrange(n), -1, 1] for _ in range(rng.randrange(3, 6))]
+    c.lines += [[0, n - 1], [1, n - 1]]
+    for table, places in FAULTS[k].items():
+        for row, field in places:
+            getattr(c, NAMING[table][0])[row][field] = rng.choice([n, n, n + 1, 32, 33, 999])
+    return c
+
+
 def struck(rng):
     """A good text after an accident: a byte changed, lost or added, or the end cut off."""
     t = bytearray(good(rng).text())

@@ -2,3 +2,4 @@ pub mod Alphabet
 pub mod Text
 pub mod Answer
 pub mod Printed
+pub mod Named

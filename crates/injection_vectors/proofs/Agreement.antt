@@ -11,8 +11,7 @@ use Rattle.real.specs.Each.{each}
 use Rattle.real.specs.Each.Laws.{length-each, is-each}
 use Rattle.real.specs.Literals.{nought}
 use Rattle.vectors.specs.Words.{Tells}
-use Rattle.network.specs.Below.{Below, allBelow}
-use Rattle.network.specs.Below.Laws.{all-below, below-all}
+use Rattle.network.specs.Below.{Below}
 use Rattle.layout.specs.Table.{stores}
 use Rattle.layout.specs.Table.Laws.{stores-length, stores-at}
 use Rattle.injections.specs.declared.Column.{Column}
@@ -20,10 +19,6 @@ use Rattle.injections.specs.declared.Injections.{Injections}
 use Rattle.network.specs.Network.{tripletsOf}
 use Rattle.injections.specs.Injections.{GoodTriplets}
 use Rattle.injection_vectors.specs.Told.{wordsTold, doublesTold, tripletsTold, Zeros, Holds, jacobianAt, Entries}
-
--- whether all numbers of a list are below n, told of one that is equal
-pub below-told : (n : ℕ) (l m : List ℕ) (b : Bool) → l ≡ m → b ≡ allBelow (length l) n l → Tells b (Below n m)
-below-told n l m b e h = rw (← e) (λ t. all-below n l (sym h ∙ t), λ p. h ∙ below-all n l p)
 
 -- ---- lists and records
 

@@ -3,6 +3,7 @@
 ghost use mathlib.Core.Path.{_≡_};
 ghost use Prim.Native.Nat.{_+_, _*_, _≤_, _<_};
 ghost use lib.ListN.{length};
+ghost use Rattle.network.specs.Below.{Below};
 ghost use Rattle.network.specs.Network.{tripletsOf};
 ghost use Rattle.injections.specs.Injections.{GoodTriplets};
 ghost use Rattle.vectors.specs.Words.{wordOf, Tells, Found};
@@ -12,6 +13,7 @@ use injections::Column;
 use injections::Injections;
 use layout::AcPfLayout;
 use libc::STDIN_FILENO;
+use real::First;
 
 // ---- what is told
 
@@ -208,6 +210,17 @@ fn jacobian_agrees(
     space_told(w, s, m * 32 + n * 96, dim)
 }
 
+// Whether each number of a column is below n.
+fn below(n: usize, l: &[usize]) -> bool
+    ensures { λ r. ⌜ Tells r (Below n (now (l .entry))) ⌝ }
+{
+    let found = network::first_missing(n, l);
+    match found {
+        First::At(_) => false,
+        First::Nowhere => true,
+    }
+}
+
 fn agrees(
     s: &[u8],
     n: usize,
@@ -221,10 +234,10 @@ fn agrees(
     requires { ⌜ Fits (now s) n m dim × (tripletsOf (now row) (now col) (now re) (now im) ≡ tripletsTold (now s) m) ⌝ }
     ensures { λ r. ⌜ Tells r (Agrees (now (s .entry)) n m dim) ⌝ }
 {
-    if !network::below(n, row) {
+    if !below(n, row) {
         return false;
     }
-    if !network::below(n, col) {
+    if !below(n, col) {
         return false;
     }
     if !injections_agree(s, n, m, dim, row, col, re, im) {

@@ -138,7 +138,7 @@ pub fn put_bare(number: usize, out: &mut [u8]) -> usize
     put_byte(b'\n', a, out)
 }
 
-// A refusal with a place of the text.
+// A refusal with one number: a place of the text, or a row of a table.
 pub fn put_placed(number: usize, place: usize, out: &mut [u8]) -> usize
     requires { ⌜ 50 ≤ length (now out) ⌝ }
     ensures { λ r. ⌜ Wrote (now (out .entry)) 0 (refusedLine number (whole place ∷ [])) r (now (out .exit)) × (r ≤ 50) ⌝ }
@@ -146,6 +146,17 @@ pub fn put_placed(number: usize, place: usize, out: &mut [u8]) -> usize
     let a = put_head(number, out);
     let b = put_count(place, a, out);
     put_byte(b'\n', b, out)
+}
+
+// A refusal with a row of a table and a field of that row.
+pub fn put_field(number: usize, row: usize, field: usize, out: &mut [u8]) -> usize
+    requires { ⌜ 71 ≤ length (now out) ⌝ }
+    ensures { λ r. ⌜ Wrote (now (out .entry)) 0 (refusedLine number (whole row ∷ whole field ∷ [])) r (now (out .exit)) × (r ≤ 71) ⌝ }
+{
+    let a = put_head(number, out);
+    let b = put_count(row, a, out);
+    let c = put_count(field, b, out);
+    put_byte(b'\n', c, out)
 }
 
 // A refusal with a mismatch and a count of starts.

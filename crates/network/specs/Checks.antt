@@ -1,14 +1,13 @@
--- What 01 asks of the tables: refusals 7 and 8, table by table.
+-- What 01 asks of the tables, table by table: refusal 7, and what it and the refusals of Missing leave.
 pub mod Laws
 use Prim.Native.Nat.{ℕ, _≤_}
 use mathlib.Core.Bool.{Bool}
-use mathlib.Core.List.{List}
 use mathlib.Core.Path.{_≡_}
 use lib.Dec.{leb, eqb}
 use lib.ListN.{length}
 use Rattle.real.specs.Tests.{both}
 use Rattle.network.specs.declared.Rows.{Rows}
-use Rattle.network.specs.Below.{Below, allBelow}
+use Rattle.network.specs.Below.{Below}
 use Rattle.network.specs.Network.{Buses, Slacks, Generators, Branches, Triplets, Network, busCount, rowCounts}
 
 -- "Buses 0 to 32, slack rows 0 to 32, generators 0 to 32, branches 0 to 64, triplets 0 to 256"
@@ -48,18 +47,6 @@ counted t =
     (both (slacksCounted (t .slacks))
     (both (generatorsCounted (t .generators))
     (both (branchesCounted (t .branches)) (tripletsCounted (t .triplets)))))
-
--- no "bus number not below the bus count": slack rows, generators, both ends of the branches, rows and columns of the triplets
-abbrev pub numberedBy : ℕ → List ℕ → List ℕ → List ℕ → List ℕ → List ℕ → List ℕ → Bool
-numberedBy n slacks generators from to row col =
-    both (allBelow (length slacks) n slacks)
-    (both (allBelow (length generators) n generators)
-    (both (allBelow (length from) n from)
-    (both (allBelow (length to) n to)
-    (both (allBelow (length row) n row) (allBelow (length col) n col)))))
-
-unfoldable pub numbered : Network → Bool
-numbered t = numberedBy (busCount t) (t .slacks .bus) (t .generators .bus) (t .branches .from) (t .branches .to) (t .triplets .row) (t .triplets .col)
 
 -- ---- as facts
 

@@ -1,3 +1,4 @@
 pub mod Below
 pub mod Network
+pub mod Missing
 pub mod Checks

@@ -1,10 +1,12 @@
 // The tables of a case: how many rows each has, and what 01 asks of them before anything is worked out.
+use real::First;
 ghost use mathlib.Core.Path.{_≡_};
 ghost use lib.ListN.{length};
-ghost use Rattle.network.specs.Below.{allBelow};
+ghost use Rattle.real.specs.First.{firstBelow};
 ghost use Rattle.network.specs.Network.{busesOf, slacksOf, generatorsOf, branchesOf, tripletsOf, networkOf, fitsOf};
 ghost use Rattle.network.specs.Checks.{same3, same7, busesCounted, slacksCounted, generatorsCounted, branchesCounted, tripletsCounted};
-ghost use Rattle.network.specs.Checks.{counted, numberedBy};
+ghost use Rattle.network.specs.Checks.{counted};
+ghost use Rattle.network.specs.Missing.{busMissing, endMissing, inColumn, firstField, inEnds, orNext, missingBy};
 
 // A number of rows for each table.
 pub struct Rows {
@@ -22,17 +24,6 @@ pub fn fits(r: Rows, room: Rows) -> bool
     let a = real::and(r.branches <= room.branches, r.triplets <= room.triplets);
     let b = real::and(r.generators <= room.generators, a);
     real::and(r.buses <= room.buses, real::and(r.slacks <= room.slacks, b))
-}
-
-// Whether each number of a column is below n.
-pub fn below(n: usize, l: &[usize]) -> bool
-    ensures { λ r. ⌜ r ≡ allBelow (length (now (l .entry))) n (now (l .entry)) ⌝ }
-{
-    let mut ok = true;
-    for i in 0..l.len() {
-        ok = real::and(ok, l[i] < n);
-    }
-    ok
 }
 
 // ---- refusal 7: a count over its size, or columns of one table that differ in length
@@ -140,9 +131,99 @@ pub fn counted(
     real::and(b, real::and(r, real::and(g, real::and(l, y))))
 }
 
-// ---- refusal 8: a bus number not below the bus count
+// ---- refusals 8, 11, 12 and 13: a row that names a bus which is not there
 
-pub fn numbered(
+// The tables whose rows name buses, in the order in which they are looked at.
+pub enum Naming {
+    Slack,
+    Generator,
+    Branch,
+    Triplet,
+}
+
+// Where a missing bus is named first: the table, its row, and which of the row's bus numbers it is, 0 or 1; a row with one has 0.
+pub enum MissingBus {
+    At {
+        table: Naming,
+        row: usize,
+        field: usize,
+    },
+    Nowhere,
+}
+
+// The first row of a column whose bus is missing: its number is not below n.
+pub fn first_missing(n: usize, l: &[usize]) -> First
+    ensures { λ r. ⌜ r ≡ firstBelow (length (now (l .entry))) (busMissing n (now (l .entry))) ⌝ }
+{
+    let mut found = First::Nowhere;
+    for i in 0..l.len() {
+        found = real::earlier(found, real::if_at(n <= l[i], i));
+    }
+    found
+}
+
+// The same of rows that name two buses.
+fn first_missing_end(n: usize, a: &[usize], b: &[usize]) -> First
+    requires { ⌜ length (now b) ≡ length (now a) ⌝ }
+    ensures { λ r. ⌜ r ≡ firstBelow (length (now (a .entry))) (endMissing n (now (a .entry)) (now (b .entry))) ⌝ }
+{
+    let mut found = First::Nowhere;
+    for i in 0..a.len() {
+        found = real::earlier(found, real::if_at(real::or(n <= a[i], n <= b[i]), i));
+    }
+    found
+}
+
+// The first row at fault of a table whose rows name one bus.
+fn in_column(n: usize, table: Naming, l: &[usize]) -> MissingBus
+    ensures { λ r. ⌜ r ≡ inColumn n table (now (l .entry)) ⌝ }
+{
+    let found = first_missing(n, l);
+    match found {
+        First::At(row) => MissingBus::At {
+            table,
+            row,
+            field: 0,
+        },
+        First::Nowhere => MissingBus::Nowhere,
+    }
+}
+
+// The first field at fault of a row whose first bus number is this.
+fn first_field(n: usize, bus: usize) -> usize
+    ensures { λ r. ⌜ r ≡ firstField n bus ⌝ }
+{
+    if n <= bus { 0 } else { 1 }
+}
+
+// The first row at fault of a table whose rows name two.
+fn in_ends(n: usize, table: Naming, a: &[usize], b: &[usize]) -> MissingBus
+    requires { ⌜ length (now b) ≡ length (now a) ⌝ }
+    ensures { λ r. ⌜ r ≡ inEnds n table (now (a .entry)) (now (b .entry)) ⌝ }
+{
+    let found = first_missing_end(n, a, b);
+    match found {
+        First::At(row) => MissingBus::At {
+            table,
+            row,
+            field: first_field(n, a[row]),
+        },
+        First::Nowhere => MissingBus::Nowhere,
+    }
+}
+
+// The one found, or else the next.
+fn or_next(found: MissingBus, next: MissingBus) -> MissingBus
+    ensures { λ r. ⌜ r ≡ orNext found next ⌝ }
+{
+    match found {
+        MissingBus::At { table, row, field } => MissingBus::At { table, row, field },
+        MissingBus::Nowhere => next,
+    }
+}
+
+// The first row at fault of the first table that has one: slack rows, generators, branches, triplets.
+pub fn missing_bus(
     n: usize,
     slacks: &[usize],
     gen_bus: &[usize],
@@ -150,18 +231,14 @@ pub fn numbered(
     br_to: &[usize],
     y_row: &[usize],
     y_col: &[usize],
-) -> bool
-    ensures { λ r. ⌜ r ≡ numberedBy n (now (slacks .entry)) (now («gen_bus» .entry)) (now («br_from» .entry)) (now («br_to» .entry))
+) -> MissingBus
+    requires { ⌜ (length (now «br_to») ≡ length (now «br_from»)) × (length (now «y_col») ≡ length (now «y_row»)) ⌝ }
+    ensures { λ r. ⌜ r ≡ missingBy n (now (slacks .entry)) (now («gen_bus» .entry)) (now («br_from» .entry)) (now («br_to» .entry))
         (now («y_row» .entry)) (now («y_col» .entry)) ⌝ }
 {
-    real::and(
-        below(n, slacks),
-        real::and(
-            below(n, gen_bus),
-            real::and(
-                below(n, br_from),
-                real::and(below(n, br_to), real::and(below(n, y_row), below(n, y_col))),
-            ),
-        ),
-    )
+    let r = in_column(n, Naming::Slack, slacks);
+    let g = in_column(n, Naming::Generator, gen_bus);
+    let l = in_ends(n, Naming::Branch, br_from, br_to);
+    let y = in_ends(n, Naming::Triplet, y_row, y_col);
+    or_next(r, or_next(g, or_next(l, y)))
 }

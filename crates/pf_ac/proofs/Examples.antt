@@ -9,11 +9,13 @@ use lib.ListN.{getD}
 use lib.Ieee.{Float, nan, ofBits, lt}
 use Rattle.real.specs.Tests.{both}
 use Rattle.real.specs.Any.{anyBelow}
+use Rattle.real.specs.First.{firstBelow}
 use Rattle.real.specs.Literals.{nought, one}
 use Rattle.network.specs.Network.{Network, busesOf, slacksOf, generatorsOf, branchesOf, tripletsOf, networkOf}
-use Rattle.network.specs.Below.{allBelow}
-use Rattle.network.specs.Checks.{counted, numbered, WellIndexed}
+use Rattle.network.specs.Checks.{counted, WellIndexed}
+use Rattle.network.specs.Missing.{inColumn, inEnds, missingIn}
 use Rattle.network.specs.Checks.Laws.{well-indexed}
+use Rattle.network.specs.declared.MissingBus.the-variants.{Nowhere}
 use Rattle.starts.specs.declared.AcStart.the-variants.{Flat}
 use Rattle.pf_ac.specs.WithStart.Withheld.{Alike}
 
@@ -31,12 +33,12 @@ sample-counted : (x : Float) → counted (sample x) ≡ true
 unfolding counted both
 sample-counted x = refl
 
-sample-numbered : (x : Float) → numbered (sample x) ≡ true
-unfolding numbered allBelow both
-sample-numbered x = refl
+none-missing : (x : Float) → missingIn (sample x) ≡ Nowhere
+unfolding missingIn inColumn inEnds firstBelow
+none-missing x = refl
 
 pub sample-well-indexed : (x : Float) → WellIndexed (sample x)
-sample-well-indexed x = well-indexed (sample x) (sample-counted x) (sample-numbered x)
+sample-well-indexed x = well-indexed (sample x) (sample-counted x) (none-missing x)
 
 -- what holds at 0, 1 and 2 holds below 3
 below-3 : (P : ℕ → Type 0) → P 0 → P 1 → P 2 → (b : ℕ) → b < 3 → P b

@@ -1,5 +1,6 @@
 pub mod Tests
 pub mod Any
+pub mod First
 pub mod Counting
 pub mod Each
 pub mod Paper

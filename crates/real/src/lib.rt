@@ -5,6 +5,7 @@ ghost use Prim.Native.Nat.{_≤_, min};
 ghost use lib.Ieee.{isNan};
 ghost use lib.Ieee.Scale.{finite};
 ghost use Rattle.real.specs.Tests.{both};
+ghost use Rattle.real.specs.First.{earlier, ifAt};
 ghost use Rattle.real.specs.Real.{absolute, maxOf};
 ghost use Rattle.real.specs.Norm.{normOf};
 
@@ -49,6 +50,29 @@ pub fn least(a: usize, b: usize) -> usize
     ensures { λ r. ⌜ (r ≡ min a b) × (r ≤ b) ⌝ }
 {
     if a < b { a } else { b }
+}
+
+// The first number that passes a test, or that none does.
+pub enum First {
+    At(usize),
+    Nowhere,
+}
+
+// The number i where it passes.
+pub fn if_at(passes: bool, i: usize) -> First
+    ensures { λ r. ⌜ r ≡ ifAt passes i ⌝ }
+{
+    if passes { First::At(i) } else { First::Nowhere }
+}
+
+// The one found, or else the next.
+pub fn earlier(found: First, next: First) -> First
+    ensures { λ r. ⌜ r ≡ earlier found next ⌝ }
+{
+    match found {
+        First::At(i) => First::At(i),
+        First::Nowhere => next,
+    }
 }
 
 // The sign is cleared, that of -0.0 too.

@@ -2,7 +2,6 @@
 use answer::Answered;
 use case_text::Reading;
 use tables::Outcome;
-ghost use mathlib.Core.Path.{_≡_};
 ghost use Prim.Native.Nat.{_≤_};
 ghost use lib.ListN.{length};
 ghost use Rattle.io.specs.Counts.{Counts};
@@ -58,7 +57,10 @@ fn put_outcome(
         }
         Outcome::Counts => lines::put_bare(7, out),
         Outcome::Room => lines::put_bare(9, out),
-        Outcome::Bus => lines::put_bare(8, out),
+        Outcome::Slack { row } => lines::put_placed(8, row, out),
+        Outcome::Generator { row } => lines::put_placed(11, row, out),
+        Outcome::Branch { row, field } => lines::put_field(12, row, field, out),
+        Outcome::Triplet { row, field } => lines::put_field(13, row, field, out),
         Outcome::NotConverged { mismatch, starts } => lines::put_spent(10, mismatch, starts, out),
     }
 }

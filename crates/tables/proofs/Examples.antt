@@ -9,10 +9,11 @@ use Rattle.real.specs.Tests.{both}
 use Rattle.real.specs.Norm.{normOf}
 use Rattle.real.specs.Real.{absolute}
 use Rattle.network.specs.Network.{Network, busesOf, slacksOf, generatorsOf, branchesOf, tripletsOf, networkOf}
-use Rattle.network.specs.Below.{allBelow}
-use Rattle.network.specs.Checks.{counted, numbered}
+use Rattle.network.specs.Checks.{counted}
+use Rattle.network.specs.Missing.{inColumn, inEnds, missingIn}
 use Rattle.trig.specs.Sine.{sinCosOf}
 use Rattle.real.specs.Any.{anyBelow}
+use Rattle.real.specs.First.{firstBelow}
 use Rattle.real.specs.Each.{each}
 use Rattle.islands.specs.Islands.{groupOf, lowest, tally, labelsOf}
 use Rattle.layout.specs.Kinds.{kindsOf}
@@ -29,6 +30,7 @@ use Rattle.pf_ac.specs.WithStart.{acPfOf}
 use Rattle.pf_ac.specs.Search.{nthStart, betterOf, tryOf, searchFrom, searchOf}
 use Rattle.tables.specs.Tables.{Outs, outs, answer, ok, lengthsIn, roomy, checkedOf, withAnswer, zeros, runOf, afterCheck, solveOf}
 use Rattle.tables.specs.declared.Checked.the-variants as Checked
+use Rattle.tables.specs.declared.Outcome.the-variants.{Room}
 use Rattle.starts.specs.declared.AcStart.{AcStart}
 use Rattle.starts.specs.declared.AcStart.the-variants.{Flat, Case}
 
@@ -47,8 +49,8 @@ row o = outs (set (o .vm) 0 (double 1)) (set (o .va) 0 (double 0)) (set (o .p) 0
 
 -- whatever stood in the columns and in the workspace
 pub listing-solved : (o : Outs) (w : List Float) → roomy 1 (lengthsIn o) (length w) ≡ true → solveOf Flat listing o w ≡ answer (ok 0 (double 0)) (row o) (zeros w)
-unfolding normOf absolute sinCosOf groupOf lowest tally each labelsOf anyBelow kindsOf angleCount magnitudeCount layoutOf sumAt limitsOf stores voltagesOf currentsTo phasorsOf injectedOf measuredOf stepsFrom newtonOf moveOf movesOf pinned keptKinds scheduleOf lettersOf roundOf roundsFrom qlimOf laterRow referencesOf flatOf acPfOf nthStart betterOf tryOf searchFrom searchOf both allBelow counted numbered withAnswer checkedOf runOf solveOf ofInt ofBits add sub mul div neg lt le isNan
-listing-solved o w h = ap (λ (r : Bool). afterCheck Flat listing o w (cond r Checked.Ready Checked.Room)) h
+unfolding normOf absolute sinCosOf groupOf lowest tally each labelsOf anyBelow kindsOf angleCount magnitudeCount layoutOf sumAt limitsOf stores voltagesOf currentsTo phasorsOf injectedOf measuredOf stepsFrom newtonOf moveOf movesOf pinned keptKinds scheduleOf lettersOf roundOf roundsFrom qlimOf laterRow referencesOf flatOf acPfOf nthStart betterOf tryOf searchFrom searchOf both firstBelow inColumn inEnds missingIn counted withAnswer checkedOf runOf solveOf ofInt ofBits add sub mul div neg lt le isNan
+listing-solved o w h = ap (λ (r : Bool). afterCheck Flat listing o w (cond r Checked.Ready (Checked.Refused Room))) h
 
 -- no bus, and so no row in any table
 abbrev empty : Network
@@ -57,6 +59,6 @@ empty = networkOf (busesOf [] [] [] [] [] [] [] []) (slacksOf [] []) (generators
 -- "Zero buses is solved, with nothing in the answer": the columns stay as they were
 pub no-buses-solved : (start : AcStart) (o : Outs) (w : List Float) → roomy 0 (lengthsIn o) (length w) ≡ true
     → solveOf start empty o w ≡ answer (ok 0 (double 0)) o (zeros w)
-unfolding normOf absolute sinCosOf groupOf lowest tally each labelsOf anyBelow kindsOf angleCount magnitudeCount layoutOf sumAt limitsOf stores voltagesOf currentsTo phasorsOf injectedOf measuredOf stepsFrom newtonOf moveOf movesOf pinned keptKinds scheduleOf lettersOf roundOf roundsFrom qlimOf laterRow referencesOf flatOf acPfOf nthStart betterOf tryOf searchFrom searchOf both allBelow counted numbered withAnswer checkedOf runOf solveOf ofInt ofBits add sub mul div neg lt le isNan caseOf
-no-buses-solved Flat o w h = ap (λ (r : Bool). afterCheck Flat empty o w (cond r Checked.Ready Checked.Room)) h
-no-buses-solved Case o w h = ap (λ (r : Bool). afterCheck Case empty o w (cond r Checked.Ready Checked.Room)) h
+unfolding normOf absolute sinCosOf groupOf lowest tally each labelsOf anyBelow kindsOf angleCount magnitudeCount layoutOf sumAt limitsOf stores voltagesOf currentsTo phasorsOf injectedOf measuredOf stepsFrom newtonOf moveOf movesOf pinned keptKinds scheduleOf lettersOf roundOf roundsFrom qlimOf laterRow referencesOf flatOf acPfOf nthStart betterOf tryOf searchFrom searchOf both firstBelow inColumn inEnds missingIn counted withAnswer checkedOf runOf solveOf ofInt ofBits add sub mul div neg lt le isNan caseOf
+no-buses-solved Flat o w h = ap (λ (r : Bool). afterCheck Flat empty o w (cond r Checked.Ready (Checked.Refused Room))) h
+no-buses-solved Case o w h = ap (λ (r : Bool). afterCheck Case empty o w (cond r Checked.Ready (Checked.Refused Room))) h

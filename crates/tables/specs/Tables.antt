@@ -1,4 +1,5 @@
--- 01, "Tables and sizes": what the solve over tables answers, what it leaves in the five answer columns and in the workspace, refusals included.
+-- 01, "Tables and sizes", with 02's Ask 1: what the solve over tables answers, what it leaves in the five answer columns and in the workspace, refusals
+-- included.
 pub mod Laws
 pub mod Withheld
 use Prim.Native.Nat.{ℕ, _≤_}
@@ -11,7 +12,12 @@ use Rattle.real.specs.Tests.{both}
 use Rattle.real.specs.Paper.{Paper, given, refused, whole, real}
 use Rattle.real.specs.Literals.{nought}
 use Rattle.network.specs.Network.{Triplets, Network, busCount}
-use Rattle.network.specs.Checks.{counted, numbered}
+use Rattle.network.specs.Checks.{counted}
+use Rattle.network.specs.Missing.{missingIn}
+use Rattle.network.specs.declared.Naming.{Naming}
+use Rattle.network.specs.declared.Naming.the-variants as Naming
+use Rattle.network.specs.declared.MissingBus.{MissingBus}
+use Rattle.network.specs.declared.MissingBus.the-variants as MissingBus
 use Rattle.layout.specs.declared.Point.{Point}
 use Rattle.layout.specs.Table.{stores}
 use Rattle.injections.specs.Injections.{injectionsOf}
@@ -26,7 +32,7 @@ use Rattle.pf_ac.specs.WithStart.{acPfOf}
 use Rattle.tables.specs.declared.Checked.{Checked}
 use Rattle.tables.specs.declared.Checked.the-variants as Checked
 use Rattle.tables.specs.declared.Outcome.{Outcome}
-use Rattle.tables.specs.declared.Outcome.the-variants.{Solved, Counts, Room, Bus, NotConverged}
+use Rattle.tables.specs.declared.Outcome.the-variants.{Solved, Counts, Room, Slack, Generator, Branch, Triplet, NotConverged}
 
 -- ---- the answer on paper
 
@@ -34,12 +40,15 @@ use Rattle.tables.specs.declared.Outcome.the-variants.{Solved, Counts, R
 abbrev pub ok : ℕ → Float → Paper (ℕ × Float)
 ok iterations residual = given (iterations, residual)
 
--- 01's number and values for each case
+-- 01's and 02's number and values for each case
 abbrev pub paperOf : Outcome → Paper (ℕ × Float)
 paperOf (Solved iterations residual) = ok iterations residual
 paperOf Counts = refused 7 []
 paperOf Room = refused 9 []
-paperOf Bus = refused 8 []
+paperOf (Slack row) = refused 8 (whole row ∷ [])
+paperOf (Generator row) = refused 11 (whole row ∷ [])
+paperOf (Branch row field) = refused 12 (whole row ∷ whole field ∷ [])
+paperOf (Triplet row field) = refused 13 (whole row ∷ whole field ∷ [])
 paperOf (NotConverged mismatch starts) = refused 10 (real mismatch ∷ whole starts ∷ [])
 
 -- the answer columns
@@ -96,10 +105,21 @@ zeros w = replicate (length w) nought
 
 -- ---- the three parts
 
--- 7, 9 and 8, in the table's order
+-- the refusal of a row that names a missing bus, by its table
+abbrev pub rowRefusal : Naming → ℕ → ℕ → Outcome
+rowRefusal Naming.Slack row field = Slack row
+rowRefusal Naming.Generator row field = Generator row
+rowRefusal Naming.Branch row field = Branch row field
+rowRefusal Naming.Triplet row field = Triplet row field
+
+abbrev pub busRefusal : MissingBus → Checked
+busRefusal (MissingBus.At table row field) = Checked.Refused (rowRefusal table row field)
+busRefusal MissingBus.Nowhere = Checked.Ready
+
+-- 7, 9, 8, 11, 12, 13, in that order
 unfoldable pub checkedOf : Network → Lengths → ℕ → Checked
 checkedOf t m space =
-    cond (counted t) (cond (roomy (busCount t) m space) (cond (numbered t) Checked.Ready Checked.Bus) Checked.Room) Checked.Counts
+    cond (counted t) (cond (roomy (busCount t) m space) (busRefusal (missingIn t)) (Checked.Refused Room)) (Checked.Refused Counts)
 
 -- the result kept, with the workspace cleared
 pub data Ran : Type 0 where
@@ -135,12 +155,10 @@ withSpace (written r o) w = answer r o w
 abbrev pub afterRun : Network → Outs → Ran → Answer
 afterRun t o (ran found best w) = withSpace (writeOf (busCount t) (t .triplets) found (best .ended .point) (best .kinds) o) w
 
--- 7, 8 and 9 leave all lent memory untouched, 10 the answer columns
+-- a refusal of the checks leaves all lent memory untouched; 10 leaves the answer columns untouched
 abbrev pub afterCheck : AcStart → Network → Outs → List Float → Checked → Answer
 afterCheck start t o w Checked.Ready = afterRun t o (runOf start t w)
-afterCheck start t o w Checked.Counts = answer (refused 7 []) o w
-afterCheck start t o w Checked.Room = answer (refused 9 []) o w
-afterCheck start t o w Checked.Bus = answer (refused 8 []) o w
+afterCheck start t o w (Checked.Refused r) = answer (paperOf r) o w
 
 unfoldable pub solveOf : AcStart → Network → Outs → List Float → Answer
 solveOf start t o w = afterCheck start t o w (checkedOf t (lengthsIn o) (length w))

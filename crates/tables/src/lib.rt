@@ -1,6 +1,8 @@
 // The solve over tables: the public call. Counts, lengths and bus numbers are checked, in that order, before anything is written.
 use layout::Point;
 use moves::KindAt;
+use network::MissingBus;
+use network::Naming;
 use pf_ac::AcPf;
 use pf_ac::Kept;
 use starts::AcStart;
@@ -13,15 +15,19 @@ ghost use Rattle.layout.specs.Table.{stores};
 ghost use Rattle.network.specs.Network.{Network, Triplets, busesOf, slacksOf, generatorsOf, branchesOf, tripletsOf, networkOf};
 ghost use Rattle.network.specs.Checks.{WellIndexed};
 ghost use Rattle.injections.specs.Injections.{GoodTriplets};
-ghost use Rattle.tables.specs.Tables.{Outs, outs, OnePerBus, lengthsOf, lengthsIn, roomy, checkedOf, withAnswer, written, writeOf};
+ghost use Rattle.tables.specs.Tables.{Outs, outs, OnePerBus, lengthsOf, lengthsIn, roomy, rowRefusal, busRefusal, checkedOf, withAnswer, written, writeOf};
 ghost use Rattle.tables.specs.Tables.{zeros, ran, runOf, paperOf, answer, solveOf};
 
-// What the call answers. Each refusal is one of the paper's: Counts is 7, Room 9, Bus 8, NotConverged 10.
+// What the call answers. Each refusal is one of the papers': Counts is 7, Room 9, Slack 8, Generator 11, Branch 12, Triplet 13, NotConverged 10. A row
+// is the lowest of its table that names a missing bus, a field the first of that row, 0 or 1.
 pub enum Outcome {
     Solved { iterations: usize, residual: f64 },
     Counts,
     Room,
-    Bus,
+    Slack { row: usize },
+    Generator { row: usize },
+    Branch { row: usize, field: usize },
+    Triplet { row: usize, field: usize },
     NotConverged { mismatch: f64, starts: usize },
 }
 
@@ -38,6 +44,34 @@ fn roomy(n: usize, vm: usize, va: usize, p: usize, q: usize, kinds: usize, w: us
             real::and(n <= p, real::and(n <= q, real::and(n <= kinds, 6144 <= w))),
         ),
     )
+}
+
+// What the checks answer.
+pub enum Checked {
+    Ready,
+    Refused(Outcome),
+}
+
+// The refusal of a row that names a missing bus, by its table: 8, 11, 12 or 13.
+fn row_refusal(table: Naming, row: usize, field: usize) -> Outcome
+    ensures { λ r. ⌜ r ≡ rowRefusal table row field ⌝ }
+{
+    match table {
+        Naming::Slack => Outcome::Slack { row },
+        Naming::Generator => Outcome::Generator { row },
+        Naming::Branch => Outcome::Branch { row, field },
+        Naming::Triplet => Outcome::Triplet { row, field },
+    }
+}
+
+// The refusal of a missing bus, or none.
+fn bus_refusal(m: MissingBus) -> Checked
+    ensures { λ r. ⌜ r ≡ busRefusal m ⌝ }
+{
+    match m {
+        MissingBus::At { table, row, field } => Checked::Refused(row_refusal(table, row, field)),
+        MissingBus::Nowhere => Checked::Ready,
+    }
 }
 
 // ---- what is written
@@ -156,15 +190,7 @@ fn write(
 
 // ---- the call in three parts
 
-// What the checks answer.
-pub enum Checked {
-    Ready,
-    Counts,
-    Room,
-    Bus,
-}
-
-// Refusals 7, 9 and 8, in that order. The last six are the lengths of the answer columns and of the workspace.
+// Refusals 7, 9, 8, 11, 12 and 13, in that order. The last six are the lengths of the answer columns and of the workspace.
 pub fn check(
     kind: &[u8],
     vm_set: &[f64],
@@ -222,16 +248,13 @@ pub fn check(
         y_re,
         y_im,
     ) {
-        return Checked::Counts;
+        return Checked::Refused(Outcome::Counts);
     }
     let n = kind.len();
     if !roomy(n, vm, va, p, q, kinds, w) {
-        return Checked::Room;
+        return Checked::Refused(Outcome::Room);
     }
-    if !network::numbered(n, slacks, gen_bus, br_from, br_to, y_row, y_col) {
-        return Checked::Bus;
-    }
-    Checked::Ready
+    bus_refusal(network::missing_bus(n, slacks, gen_bus, br_from, br_to, y_row, y_col))
 }
 
 // From ready tables to the result kept, with the workspace cleared.
@@ -411,8 +434,6 @@ pub fn solve(
                 kinds,
             )
         }
-        Checked::Counts => Outcome::Counts,
-        Checked::Room => Outcome::Room,
-        Checked::Bus => Outcome::Bus,
+        Checked::Refused(r) => r,
     }
 }

@@ -1,29 +1,33 @@
--- Refusals 7 and 9 are not met by a text, and withheld figures don't show in its answer. Assumes nothing.
+-- Refusals 7 and 9 are not met by a text, a row that names a missing bus is a line of it, and withheld figures don't show in its answer. Assumes nothing.
 use Prim.Native.Nat.{ℕ, _≤_}
 use mathlib.Core.Path.{_≡_, refl, ap, _∙_}
-use mathlib.Core.List.{List, []}
-use mathlib.Core.Bool.{Bool, true, false, cond}
+use mathlib.Core.List.{List}
+use mathlib.Core.Bool.{true}
 use lib.ListN.{length}
 use lib.Ieee.{Float}
 use Rattle.real.specs.Paper.{Paper, given, refused, onGiven}
 use Rattle.network.specs.declared.Rows.{Rows}
 use Rattle.network.specs.Network.{Network, busCount, AtMost, roomOf, fitsOf, firstRows}
 use Rattle.network.specs.Network.Laws.{at-most-fits}
-use Rattle.network.specs.Checks.{sizes, counted, numbered}
+use Rattle.network.specs.Checks.{sizes, counted}
 use Rattle.network.specs.Checks.Laws.{first-counted, first-buses}
+use Rattle.network.specs.Missing.{missingIn}
+use Rattle.network.specs.declared.Naming.{Naming}
+use Rattle.network.specs.declared.MissingBus.the-variants as MissingBus
 use Rattle.trailer.specs.Trailer.{trailerStart}
 use Rattle.case_text.specs.declared.Contents.{Contents}
 use Rattle.case_text.specs.declared.Reading.{Reading}
 use Rattle.case_text.specs.declared.Reading.the-variants as Reading
 use Rattle.case_text.specs.Text.{textOf}
-use Rattle.case_text.specs.Text.Laws.{Accepted, Where, text-sound, never-room}
+use Rattle.case_text.specs.Text.Laws.{Accepted, Where, accepted-has, text-sound, never-room}
+use Rattle.case_text.specs.Named.{FirstLine}
+use Rattle.case_text.specs.Named.Laws.{lines-of, told-line}
 use Rattle.case_text.specs.Answer as Reader
 use Rattle.case_text.specs.Answer.{withRoom, judgedOf, filledOf, readResultOf, readOf}
 use Rattle.case_text.specs.Answer.Laws.{rows-most, filled-room}
 use Rattle.starts.specs.declared.AcStart.{AcStart}
 use Rattle.pf_ac.specs.WithStart.Withheld.{Alike}
-use Rattle.tables.specs.declared.Checked.the-variants as Checked
-use Rattle.tables.specs.Tables.{Outs, lengthsIn, roomy, checkedOf, runOf, Answer, answer, afterRun, afterCheck, solveOf}
+use Rattle.tables.specs.Tables.{Outs, lengthsIn, paperOf, roomy, rowRefusal, busRefusal, checkedOf, Answer, afterCheck, solveOf}
 use Rattle.tables.specs.Tables.Withheld.{solve-withheld}
 use Rattle.answer.specs.TextAnswer.{blank, TextAnswer, textAnswer, unread, afterReading, textAnswerOf}
 
@@ -42,31 +46,27 @@ reader-never-9 s = go (textOf s) (Reader.paperOf (textOf s)) refl (text-sound s)
         rw (e, fits)
     go v (refused number values) e a = rw e
 
--- what is left of the solve once 7 and 9 are out: 8, or the run
-abbrev pub solvedOr8 : AcStart → Network → Outs → List Float → Answer
-solvedOr8 start t o w = cond (numbered t) (afterRun t o (runOf start t w)) (answer (refused 8 []) o w)
+-- what is left of the solve once 7 and 9 are out: the refusal of a row that names a missing bus (8, 11, 12, 13), or the run
+abbrev pub solvedOrMissing : AcStart → Network → Outs → List Float → Answer
+solvedOrMissing start t o w = afterCheck start t o w (busRefusal (missingIn t))
 
 pub solve-never-7-9 : (start : AcStart) (t : Network) (o : Outs) (w : List Float) → counted t ≡ true → roomy (busCount t) (lengthsIn o) (length w) ≡ true
-    → solveOf start t o w ≡ solvedOr8 start t o w
+    → solveOf start t o w ≡ solvedOrMissing start t o w
 unfolding solveOf checkedOf
-solve-never-7-9 start t o w h k = rw (h, k) (go (numbered t))
-  where
-    go : (b : Bool) → afterCheck start t o w (cond b Checked.Ready Checked.Bus) ≡ cond b (afterRun t o (runOf start t w)) (answer (refused 8 []) o w)
-    go true = refl
-    go false = refl
+solve-never-7-9 start t o w h k = rw (h, k)
 
 abbrev told : ℕ → Answer → TextAnswer
 told n a = textAnswer n (a .paper) (a .columns) (a .space)
 
--- the answer of a text: its refusal, or that of its tables, which is refused 8, refused 10 or solved
+-- the answer of a text: its refusal, or that of its tables, which is refused 8, 11, 12, 13 or 10, or solved
 abbrev pub textGives : List ℕ → Outs → List Float → Reading → TextAnswer
 textGives s o w v =
-    onGiven (Reader.paperOf v) (λ c. told (c .rows .buses) (solvedOr8 (c .start) (firstRows (c .rows) (filledOf s (trailerStart s) blank)) o w))
+    onGiven (Reader.paperOf v) (λ c. told (c .rows .buses) (solvedOrMissing (c .start) (firstRows (c .rows) (filledOf s (trailerStart s) blank)) o w))
     (textAnswer 0 (unread (Reader.paperOf v)) o w)
 
 -- of the first rows of tables that have room for them
 rows-never-7-9 : (start : AcStart) (r : Rows) (t : Network) (o : Outs) (w : List Float) → AtMost r sizes → AtMost r (roomOf t)
-    → ((n : ℕ) → n ≤ 32 → roomy n (lengthsIn o) (length w) ≡ true) → solveOf start (firstRows r t) o w ≡ solvedOr8 start (firstRows r t) o w
+    → ((n : ℕ) → n ≤ 32 → roomy n (lengthsIn o) (length w) ≡ true) → solveOf start (firstRows r t) o w ≡ solvedOrMissing start (firstRows r t) o w
 rows-never-7-9 start r t o w few fits room =
     solve-never-7-9 start (firstRows r t) o w (first-counted r t few fits) (rw (first-buses r t fits) (room (r .buses) (few .buses)))
 
@@ -83,6 +83,17 @@ answer-never-7-9 s o w room = (rw (reader-never-9 s) (go (textOf s) (Reader.pape
         let few = rows-most s _ c a in
         rw e (ap (told (c .rows .buses)) (rows-never-7-9 (c .start) (c .rows) (filledOf s (trailerStart s) blank) o w few (fits (c .rows) few) room))
     go v (refused number values) e a = rw e
+
+-- ---- a row that names a missing bus
+
+-- the refusal's row is a line of the text: the first of its section that names a missing bus, by the field told
+pub line-told : (s : List ℕ) (o : Outs) (w : List Float) → ((n : ℕ) → n ≤ 32 → roomy n (lengthsIn o) (length w) ≡ true) → (c : Contents) → textOf s ≡ Reading.Good c
+    → (table : Naming) (i j : ℕ) → missingIn (firstRows (c .rows) (filledOf s (trailerStart s) blank)) ≡ MissingBus.At table i j
+    → (textAnswerOf s o w ≡ textAnswer (c .rows .buses) (paperOf (rowRefusal table i j)) o w) × FirstLine s (trailerStart s) table i j
+line-told s o w room c h table i j e =
+    let a = accepted-has s c h in
+    let fits = blank-holds (c .rows) (rows-most s (trailerStart s) c a) in
+    (answer-never-7-9 s o w room .0 ∙ rw (h, e), told-line s (trailerStart s) _ (lines-of s (trailerStart s) c a blank fits) table i j e)
 
 -- ---- demand 3
 

@@ -53,7 +53,7 @@ fitting s m c h = let e = with-room (textOf s) m c h in record { accepted = acce
 
 -- ---- the sections' places, and that each table's rows fit its columns
 
-part-rows : (z : Section) (s : List ℕ) (t n : ℕ) → partOf z s t ≡ Check.Good n → n ≡ rowCount (bytesOf z s t)
+pub part-rows : (z : Section) (s : List ℕ) (t n : ℕ) → partOf z s t ≡ Check.Good n → n ≡ rowCount (bytesOf z s t)
 unfolding partOf
 part-rows z s t n h = section-rows z (sectionStart z s t) (bytesOf z s t) n h
 

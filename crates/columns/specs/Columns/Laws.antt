@@ -1,21 +1,22 @@
--- A line's field by its number; a column's turns, for any kind of element; and that a field read as a real or `?` is the real, where it is one.
--- Assumes nothing.
-use mathlib.Core.Path.{_≡_, refl, sym, _∙_}
+-- A line's field by its number; a column's turns, for any kind of element; that a column's rows are its section's lines; and that a field read as a real
+-- or `?` is the real, where it is one. Assumes nothing.
+use mathlib.Core.Path.{_≡_, refl, sym, ap, _∙_}
 use mathlib.Core.Bool.{true, false}
 use mathlib.Core.Logic.{⊎-elim}
 use mathlib.Core.List.{List, [], _∷_}
 use Prim.Native.Nat.{ℕ, zero, suc, _+_, _-_, _≤_, _<_}
 use native.Mathlib.Omega.{arith}
 use native.Mathlib.Numerals.{add-one}
-use lib.ListN.{length, getD, set, length-set}
-use lib.Seq.{slice, sets}
+use lib.ListN.{length, getD, set, take, length-set, length-map, List·getD-map}
+use lib.Seq.{slice, sets, sets-eq, take-append-seam}
 use Rattle.fields.specs.Cut.{only, has, pieces, Found}
 use Rattle.fields.specs.Cut.Laws.{only-is}
 use Rattle.real.specs.Tests.{decided, true-false, below-or}
 use Rattle.fields.specs.Digits.{digits}
 use Rattle.fields.specs.Real.{amountOf, realOf, orNanOf, isReal}
+use Rattle.rows.specs.Rows.{rowsOf}
 use Rattle.rows.specs.Rows.Laws.{rows-more, rows-room, rows-last, rows-end}
-use Rattle.columns.specs.Columns.{rowCount, columnOf, filled}
+use Rattle.columns.specs.Columns.{rowCount, numberField, columnOf, filled}
 
 -- ---- a field by its number
 
@@ -72,6 +73,20 @@ module _ {A : Type 0} (g : List ℕ → A) (s : List ℕ) (a e : ℕ) (old : Lis
           room = simp length-set fill-room;
           same = sym (column-on v t) ∙ w .same;
         }
+
+-- ---- a column's rows are its section's lines, in their order
+
+pub rows-are-lines : {A : Type 0} (f : List ℕ → A) (l : List ℕ) (old : List A) (n : ℕ) → n ≡ rowCount l → n ≤ length old → take n (filled f l old) ≡ columnOf f l
+rows-are-lines f l old n e h =
+    let size : length (columnOf f l) ≡ n = length-map (rowsOf l) f ∙ sym e in
+    ap (take n) (sets-eq (columnOf f l) old 0 (omega (arith, size))) ∙ rw (← size) (take-append-seam (columnOf f l) _)
+
+no-number : (j : ℕ) → numberField j [] ≡ 0
+unfolding pieces
+no-number j = rw add-one
+
+pub number-at : (j : ℕ) (l : List ℕ) (i : ℕ) → getD (columnOf (numberField j) l) i 0 ≡ numberField j (getD (rowsOf l) i [])
+number-at j l i = rw (no-number j) at (List·getD-map (numberField j) (rowsOf l) i [])
 
 -- ---- `?` is no real
 

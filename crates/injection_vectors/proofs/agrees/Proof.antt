@@ -8,7 +8,7 @@ use Rattle.network.specs.Below.{Below}
 use Rattle.network.specs.Network.{Triplets}
 use Rattle.injections.specs.Injections.{GoodTriplets}
 use Rattle.injection_vectors.specs.Told.{tripletsTold}
-use Rattle.injection_vectors.proofs.Agreement.{below-told, good}
+use Rattle.injection_vectors.proofs.Agreement.{good}
 use Rattle.injection_vectors.proofs.agrees.Statement.{statement}
 use Rattle.injection_vectors.proofs.agrees.Tie as tie
 
@@ -23,12 +23,10 @@ start-of c = entry (c .before .before .before)
 -- ---- the rows and columns that were compared are those told
 
 rows-told : (c : tie.After-below) → let a = entry c .args in Tells (c .below .result) (Below (a .n) (tripletsTold (a .s .now) (a .m) .row))
-rows-told c = let s = entry c in below-told (s .args .n) (s .args .row .now) _ (c .below .result) (ap (λ (y : Triplets). y .row) (s .pre .1)) (c .below .ensures)
+rows-told c = rw (ap (λ (y : Triplets). y .row) (entry c .pre .1)) at (c .below .ensures)
 
 cols-told : (c : tie.After-below2) → let a = entry (c .before .before) .args in Tells (c .below2 .result) (Below (a .n) (tripletsTold (a .s .now) (a .m) .col))
-cols-told c =
-    let s = entry (c .before .before) in
-    below-told (s .args .n) (s .args .col .now) _ (c .below2 .result) (ap (λ (y : Triplets). y .col) (s .pre .1)) (c .below2 .ensures)
+cols-told c = rw (ap (λ (y : Triplets). y .col) (entry (c .before .before) .pre .1)) at (c .below2 .ensures)
 
 rows-below : (c : tie.Else2) → let a = start-of c .args in Below (a .n) (tripletsTold (a .s .now) (a .m) .row)
 rows-below c = rows-told (c .before .before .before) .0 (not-false _ (c .before .before .if1 .left))

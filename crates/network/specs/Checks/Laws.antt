@@ -7,13 +7,15 @@ use lib.ListN.{length, take}
 use lib.Seq.{length-take-le}
 use borrow.Author.Tests.{eqb-true, leb-true, eq-eqb, le-leb}
 use Rattle.real.specs.Tests.{both, both-l, both-r}
-use Rattle.network.specs.Below.Laws.{all-below}
+use Rattle.network.specs.Missing.{missingIn, TripletsNamed}
+use Rattle.network.specs.Missing.Laws.{missing-means}
+use Rattle.network.specs.declared.MissingBus.the-variants.{Nowhere}
 use Rattle.network.specs.declared.Rows.{Rows}
 use Rattle.network.specs.Network.{Buses, Slacks, Generators, Branches, Triplets, Network, busCount, AtMost, roomOf}
 use Rattle.network.specs.Network.{RoomBuses, RoomSlacks, RoomGenerators, RoomBranches, RoomTriplets}
 use Rattle.network.specs.Network.{firstBuses, firstSlacks, firstGenerators, firstBranches, firstTriplets, firstRows}
 use Rattle.network.specs.Network.Laws.{room-buses, room-slacks, room-generators, room-branches, room-triplets}
-use Rattle.network.specs.Checks.{sizes, busesCounted, slacksCounted, generatorsCounted, branchesCounted, tripletsCounted, counted, numbered}
+use Rattle.network.specs.Checks.{sizes, busesCounted, slacksCounted, generatorsCounted, branchesCounted, tripletsCounted, counted}
 use Rattle.network.specs.Checks.{SizedBuses, SizedSlacks, SizedGenerators, SizedBranches, SizedTriplets, WellIndexed}
 
 -- ---- each table's test tells its facts
@@ -58,28 +60,34 @@ pub buses-few : (t : Network) → counted t ≡ true → busCount t ≤ 32
 unfolding counted
 buses-few t h = buses-sized (t .buses) (both-l _ _ h) .few
 
-pub well-indexed : (t : Network) → counted t ≡ true → numbered t ≡ true → WellIndexed t
-unfolding counted numbered
+pub branches-even : (t : Network) → counted t ≡ true → SizedBranches (t .branches)
+unfolding counted
+branches-even t h = branches-sized (t .branches) (both-l _ _ (both-r _ _ (both-r _ _ (both-r _ _ h))))
+
+pub triplets-even : (t : Network) → counted t ≡ true → SizedTriplets (t .triplets)
+unfolding counted
+triplets-even t h = triplets-sized (t .triplets) (both-r _ _ (both-r _ _ (both-r _ _ (both-r _ _ h))))
+
+pub well-indexed : (t : Network) → counted t ≡ true → missingIn t ≡ Nowhere → WellIndexed t
+unfolding counted
 well-indexed t h k =
     let h₁ = both-r _ _ h in
     let h₂ = both-r _ _ h₁ in
-    let h₃ = both-r _ _ h₂ in
-    let k₁ = both-r _ _ k in
-    let k₂ = both-r _ _ k₁ in
-    let k₃ = both-r _ _ k₂ in
-    let k₄ = both-r _ _ k₃ in
+    let l = branches-even t h in
+    let y = triplets-even t h in
+    let named : TripletsNamed t = rw k at (missing-means t (l .to) (y .col)) in
     record {
       buses = buses-sized (t .buses) (both-l _ _ h);
       slacks = slacks-sized (t .slacks) (both-l _ _ h₁);
       generators = generators-sized (t .generators) (both-l _ _ h₂);
-      branches = branches-sized (t .branches) (both-l _ _ h₃);
-      triplets = triplets-sized (t .triplets) (both-r _ _ h₃);
-      slack-bus = all-below _ (t .slacks .bus) (both-l _ _ k);
-      generator-bus = all-below _ (t .generators .bus) (both-l _ _ k₁);
-      branch-from = all-below _ (t .branches .from) (both-l _ _ k₂);
-      branch-to = all-below _ (t .branches .to) (both-l _ _ k₃);
-      triplet-row = all-below _ (t .triplets .row) (both-l _ _ k₄);
-      triplet-col = all-below _ (t .triplets .col) (both-r _ _ k₄);
+      branches = l;
+      triplets = y;
+      slack-bus = named .0 .0 .0;
+      generator-bus = named .0 .0 .1;
+      branch-from = named .0 .1;
+      branch-to = named .0 .2;
+      triplet-row = named .1;
+      triplet-col = named .2;
     }
 
 -- ---- tables of those sizes pass

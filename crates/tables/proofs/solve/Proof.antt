@@ -1,7 +1,5 @@
 -- `tables::solve` meets its contract: what the checks tell is what the run and the writing ask for. Assumes nothing.
-use mathlib.Core.Path.{refl}
 use borrow.Author.Needs.{needs}
-use Rattle.tables.specs.declared.Outcome.the-variants.{Counts, Room, Bus}
 use Rattle.network.specs.Checks.Laws.{well-indexed}
 use Rattle.pf_ac.specs.WithStart.Laws.{good-triplets}
 use Rattle.tables.specs.Tables.Laws.{met, one-per-bus, solve-ready, solve-refused}
@@ -12,13 +10,13 @@ run-requires : tie.Need-run-requires
 run-requires c κs =
     let e = c .before in
     let m = met _ _ _ (rw (e .enum-told .given .1) at (e .before .before .check .ensures)) in
-    (well-indexed _ (m .is-counted) (m .is-numbered), one-per-bus _ _ _ (m .is-roomy) .1)
+    (well-indexed _ (m .is-counted) (m .none-missing), one-per-bus _ _ _ (m .is-roomy) .1)
 
 write-requires : tie.Need-write-requires
 write-requires c κs =
     let e = c .before .before .before .before .before .before .before .before .before .before .before in
     let m = met _ _ _ (rw (e .enum-told .given .1) at (e .before .before .check .ensures)) in
-    (good-triplets _ (well-indexed _ (m .is-counted) (m .is-numbered)), one-per-bus _ _ _ (m .is-roomy) .0)
+    (good-triplets _ (well-indexed _ (m .is-counted) (m .none-missing)), one-per-bus _ _ _ (m .is-roomy) .0)
 
 returns : tie.Need-returns
 returns c =
@@ -28,17 +26,10 @@ returns c =
     solve-ready _ _ _ _ _ (e .before .before .check .ensures) (e .enum-told .given .1) _ _ _ (r .run .ensures) (w .write .result) _ (w .write .ensures)
 
 returns-2 : tie.Need-returns-2
-returns-2 c = solve-refused _ _ _ _ _ (c .before .before .check .ensures) Counts (rw (c .enum-told2 .given .1))
-
-returns-3 : tie.Need-returns-3
-returns-3 c = solve-refused _ _ _ _ _ (c .before .before .check .ensures) Room (rw (c .enum-told3 .given .1))
-
-returns-4 : tie.Need-returns-4
-returns-4 c = solve-refused _ _ _ _ _ (c .before .before .check .ensures) Bus (rw (c .enum-told4 .given .1))
+returns-2 c = let m = c .before in solve-refused _ _ _ _ _ (m .before .before .check .ensures) _ (m .c .given .1)
 
 pub solve-spec : {M : Type 1} → statement M
 solve-spec =
     tie.close
     (tie.spec (λ c κs. search needs) (λ c. search needs) run-requires write-requires (λ c. search needs) (λ c. search needs) (λ c. search needs)
-    (λ c. search needs) (λ c. search needs) (λ c. search needs) (λ c. search needs) (λ c. search needs) (λ c. search needs) returns returns-2
-    returns-3 returns-4)
+    (λ c. search needs) (λ c. search needs) (λ c. search needs) (λ c. search needs) returns returns-2)

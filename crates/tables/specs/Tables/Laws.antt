@@ -4,7 +4,6 @@ use mathlib.Core.Bool.{Bool, true, false, cond}
 use mathlib.Core.List.{List, [], _∷_}
 use mathlib.Core.Path.{_≡_, refl, sym, ap, _∙_}
 use native.Mathlib.Nat.{le-refl}
-use native.Mathlib.Omega.{arith}
 use borrow.Author.Tests.{leb-true}
 use lib.ListN.{length, getD, replicate, length-replicate, getD-replicate}
 use lib.Seq.{ext-getD}
@@ -14,7 +13,10 @@ use Rattle.real.specs.Tests.{no-case, both-l, both-r}
 use Rattle.real.specs.Literals.{nought}
 use Rattle.real.specs.Paper.{Value, whole, real, placeIn, Paper, given, refused}
 use Rattle.network.specs.Network.{Triplets, Network, busCount}
-use Rattle.network.specs.Checks.{counted, numbered}
+use Rattle.network.specs.Checks.{counted}
+use Rattle.network.specs.Missing.{missingIn}
+use Rattle.network.specs.declared.MissingBus.{MissingBus}
+use Rattle.network.specs.declared.MissingBus.the-variants as MissingBus
 use Rattle.layout.specs.declared.Point.{Point}
 use Rattle.layout.specs.Table.{stores}
 use Rattle.layout.specs.Table.Laws.{stores-length, stores-at}
@@ -30,41 +32,40 @@ use Rattle.pf_ac.specs.WithStart.{acPfOf}
 use Rattle.tables.specs.declared.Checked.{Checked}
 use Rattle.tables.specs.declared.Checked.the-variants as Checked
 use Rattle.tables.specs.declared.Outcome.{Outcome}
-use Rattle.tables.specs.declared.Outcome.the-variants.{Solved, Counts, Room, Bus, NotConverged}
-use Rattle.tables.specs.Tables.{paperOf, Answer, Outs, outs, Lengths, lengthsIn, OnePerBus, roomy, checkedOf, withAnswer, written, writeOf, zeros, ran, runOf, answer, afterCheck, solveOf}
+use Rattle.tables.specs.declared.Outcome.the-variants.{Solved, Counts, Room, Slack, Generator, Branch, Triplet, NotConverged}
+use Rattle.tables.specs.Tables.{paperOf, Answer, Outs, outs, Lengths, lengthsIn, OnePerBus, roomy, rowRefusal, busRefusal, checkedOf, withAnswer, written, writeOf, zeros, ran, runOf, answer, solveOf}
 
 -- ---- the checks
 
 module _ (t : Network) (m : Lengths) (space : ℕ) where
-  pub check-counts : counted t ≡ false → Checked.Counts ≡ checkedOf t m space
+  pub check-counts : counted t ≡ false → Checked.Refused Counts ≡ checkedOf t m space
   unfolding checkedOf
   check-counts h = rw h
 
-  pub check-room : counted t ≡ true → roomy (busCount t) m space ≡ false → Checked.Room ≡ checkedOf t m space
+  pub check-room : counted t ≡ true → roomy (busCount t) m space ≡ false → Checked.Refused Room ≡ checkedOf t m space
   unfolding checkedOf
   check-room h hr = rw (h, hr)
 
-  -- the last test decides between 8 and going on
-  pub check-numbers : counted t ≡ true → roomy (busCount t) m space ≡ true → (b : Bool) → numbered t ≡ b
-      → cond b Checked.Ready Checked.Bus ≡ checkedOf t m space
+  -- the search for a missing bus decides between its refusals and going on
+  pub check-buses : counted t ≡ true → roomy (busCount t) m space ≡ true → busRefusal (missingIn t) ≡ checkedOf t m space
   unfolding checkedOf
-  check-numbers h hr b hn = rw (h, hr, hn)
+  check-buses h hr = rw (h, hr)
 
   -- what it tells that they are met
   pub record Met : Type 0 where
     pub is-counted : counted t ≡ true
     pub is-roomy : roomy (busCount t) m space ≡ true
-    pub is-numbered : numbered t ≡ true
+    pub none-missing : missingIn t ≡ MissingBus.Nowhere
 
   pub met : Checked.Ready ≡ checkedOf t m space → Met
   unfolding checkedOf
-  met e = go (counted t) (roomy (busCount t) m space) (numbered t) refl refl refl
+  met e = go (counted t) (roomy (busCount t) m space) (missingIn t) refl refl refl
     where
-      go : (a b c : Bool) → counted t ≡ a → roomy (busCount t) m space ≡ b → numbered t ≡ c → Met
-      go true true true p q r = record { is-counted = p; is-roomy = q; is-numbered = r }
-      go true true false p q r = let k : Checked.Ready ≡ Checked.Bus = rw (p, q, r) at e in no-case cc
-      go true false c p q r = let k : Checked.Ready ≡ Checked.Room = rw (p, q) at e in no-case cc
-      go false b c p q r = let k : Checked.Ready ≡ Checked.Counts = rw p at e in no-case cc
+      go : (a b : Bool) (c : MissingBus) → counted t ≡ a → roomy (busCount t) m space ≡ b → missingIn t ≡ c → Met
+      go true true MissingBus.Nowhere p q r = record { is-counted = p; is-roomy = q; none-missing = r }
+      go true true (MissingBus.At table row field) p q r = let k : Checked.Ready ≡ Checked.Refused (rowRefusal table row field) = rw (p, q, r) at e in no-case cc
+      go true false c p q r = let k : Checked.Ready ≡ Checked.Refused Room = rw (p, q) at e in no-case cc
+      go false b c p q r = let k : Checked.Ready ≡ Checked.Refused Counts = rw p at e in no-case cc
 
 pub one-per-bus : (n : ℕ) (m : Lengths) (space : ℕ) → roomy n m space ≡ true → OnePerBus n m × (6144 ≤ space)
 unfolding roomy
@@ -111,9 +112,9 @@ answer-written n y point kept o found ef letters el vm va p q kinds em ea ep eq 
 -- ---- the call
 
 module _ (start : AcStart) (t : Network) (o : Outs) (w : List Float) (c : Checked) (h : c ≡ checkedOf t (lengthsIn o) (length w)) where
-  pub solve-refused : (r : Outcome) → answer (paperOf r) o w ≡ afterCheck start t o w c → answer (paperOf r) o w ≡ solveOf start t o w
+  pub solve-refused : (r : Outcome) → c ≡ Checked.Refused r → answer (paperOf r) o w ≡ solveOf start t o w
   unfolding solveOf
-  solve-refused r e = rw (← h) e
+  solve-refused r e = rw (← h, e)
 
   pub solve-ready : c ≡ Checked.Ready → (found : AcPf) (best : Settled) (v : List Float) → ran found best v ≡ runOf start t w → (r : Outcome) (e : Outs)
       → written (paperOf r) e ≡ writeOf (busCount t) (t .triplets) found (best .ended .point) (best .kinds) o → answer (paperOf r) e v ≡ solveOf start t o w
@@ -128,15 +129,29 @@ spent [] = Counts
 spent (whole n ∷ vs) = Counts
 spent (real x ∷ vs) = NotConverged x (placeIn vs)
 
+-- the value behind the first
+abbrev second : List Value → ℕ
+second [] = 0
+second (v ∷ vs) = placeIn vs
+
 abbrev back : Paper (ℕ × Float) → Outcome
 back (given found) = Solved (found .0) (found .1)
-back (refused n values) = cond (eqb n 7) Counts (cond (eqb n 9) Room (cond (eqb n 8) Bus (spent values)))
+back (refused n values) =
+    cond (eqb n 7) Counts
+    (cond (eqb n 9) Room
+    (cond (eqb n 8) (Slack (placeIn values))
+    (cond (eqb n 11) (Generator (placeIn values))
+    (cond (eqb n 12) (Branch (placeIn values) (second values))
+    (cond (eqb n 13) (Triplet (placeIn values) (second values)) (spent values))))))
 
 back-paper : (r : Outcome) → back (paperOf r) ≡ r
 back-paper (Solved i x) = refl
 back-paper Counts = refl
 back-paper Room = refl
-back-paper Bus = refl
+back-paper (Slack row) = refl
+back-paper (Generator row) = refl
+back-paper (Branch row field) = refl
+back-paper (Triplet row field) = refl
 back-paper (NotConverged m k) = refl
 
 pub paper-one : (r s : Outcome) → paperOf r ≡ paperOf s → r ≡ s

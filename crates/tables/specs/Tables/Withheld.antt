@@ -1,6 +1,6 @@
 -- Demand 3, of the public call: tables that differ only in 01's "Withheld columns", solved with the same lent buffers, give the same answer, columns and
 -- workspace, refusals included. Assumes nothing.
-use Prim.Native.Nat.{ℕ, _≤_}
+use Prim.Native.Nat.{_≤_}
 use mathlib.Core.List.{List}
 use mathlib.Core.Path.{_≡_, refl, ap, _∙_}
 use lib.Dec.{leb, eqb}
@@ -8,13 +8,14 @@ use lib.ListN.{length}
 use lib.Ieee.{Float}
 use Rattle.real.specs.Tests.{both}
 use Rattle.network.specs.Network.{Network, busCount}
-use Rattle.network.specs.Checks.{same7, slacksCounted, branchesCounted, tripletsCounted, counted, numbered, numberedBy}
+use Rattle.network.specs.Checks.{same7, slacksCounted, branchesCounted, tripletsCounted, counted}
+use Rattle.network.specs.Missing.{missingBy, missingIn}
 use Rattle.network.specs.Checks.Laws.{buses-few}
 use Rattle.starts.specs.declared.AcStart.{AcStart}
 use Rattle.pf_ac.specs.declared.AcPf.the-variants as AcPf
 use Rattle.pf_ac.specs.Search.{Searched}
 use Rattle.pf_ac.specs.WithStart.Withheld.{Alike, withheld}
-use Rattle.tables.specs.Tables.{ok, Outs, lengthsIn, roomy, checkedOf, withAnswer, Ran, ran, ranOf, runOf, answer, afterRun, afterCheck, solveOf}
+use Rattle.tables.specs.Tables.{ok, Outs, lengthsIn, checkedOf, withAnswer, Ran, ran, ranOf, runOf, answer, afterRun, afterCheck, solveOf}
 use Rattle.tables.specs.Tables.Laws.{met}
 use Rattle.tables.specs.declared.Checked.{Checked}
 use Rattle.tables.specs.declared.Checked.the-variants as Checked
@@ -36,13 +37,14 @@ module _ (start : AcStart) (t u : Network) (a : Alike start t u) (o : Outs) (w :
   buses-same : busCount t ≡ busCount u
   buses-same = ap length (a .buses .kind)
 
-  numbered-same : numbered t ≡ numbered u
-  unfolding numbered
-  numbered-same = λ i. numberedBy (buses-same i) (a .slacks i .bus) (a .generators .bus i) (a .branches i .from) (a .branches i .to) (a .triplets i .row) (a .triplets i .col)
+  -- and so the same row is told
+  missing-same : missingIn t ≡ missingIn u
+  unfolding missingIn
+  missing-same = λ i. missingBy (buses-same i) (a .slacks i .bus) (a .generators .bus i) (a .branches i .from) (a .branches i .to) (a .triplets i .row) (a .triplets i .col)
 
   checked-same : checkedOf t (lengthsIn o) (length w) ≡ checkedOf u (lengthsIn o) (length w)
   unfolding checkedOf
-  checked-same = rw (counted-same, buses-same, numbered-same)
+  checked-same = rw (counted-same, buses-same, missing-same)
 
   run-same : busCount t ≤ 32 → runOf start t w ≡ runOf start u w
   unfolding runOf
@@ -59,6 +61,4 @@ module _ (start : AcStart) (t u : Network) (a : Alike start t u) (o : Outs) (w :
     where
       go : (c : Checked) → c ≡ checkedOf t (lengthsIn o) (length w) → afterCheck start t o w c ≡ afterCheck start u o w c
       go Checked.Ready e = after-same (runOf start t w) ∙ ap (afterRun u o) (run-same (buses-few t (met t (lengthsIn o) (length w) e .is-counted)))
-      go Checked.Counts e = refl
-      go Checked.Room e = refl
-      go Checked.Bus e = refl
+      go (Checked.Refused r) e = refl
