@@ -8,7 +8,8 @@ use lib.ListN.{set}
 use lib.Seq.{sets}
 use lib.Ieee.{Float, nan, ofBits, div, neg, ofInt}
 use Rattle.real.specs.Tests.{both}
-use Rattle.real.specs.Paper.{given, refused, whole}
+use Rattle.real.specs.declared.Value.the-variants.{Whole}
+use Rattle.real.specs.Paper.{given, refused}
 use Rattle.real.specs.Literals.{lit, nought, one}
 use Rattle.fields.specs.Cut.{upto, past, has, pieces}
 use Rattle.fields.specs.Digits.{digits, number}
@@ -131,7 +132,7 @@ abbrev pub point-text : List ℕ
 point-text =
     66 ∷ 32 ∷ 81 ∷ 32 ∷ 49 ∷ 46 ∷ 32 ∷ 48 ∷ 32 ∷ 48 ∷ 32 ∷ 48 ∷ 32 ∷ 48 ∷ 32 ∷ 63 ∷ 32 ∷ 63 ∷ 10 ∷ 70 ∷ 32 ∷ 48 ∷ 48 ∷ 48 ∷ 48 ∷ 48 ∷ 32 ∷ 48 ∷ 48 ∷ 48 ∷ 49 ∷ 57 ∷ 32 ∷ 48 ∷ 48 ∷ 48 ∷ 49 ∷ 57 ∷ 32 ∷ 48 ∷ 48 ∷ 48 ∷ 49 ∷ 57 ∷ 32 ∷ 48 ∷ 48 ∷ 48 ∷ 49 ∷ 57 ∷ 32 ∷ 48 ∷ 48 ∷ 48 ∷ 49 ∷ 57 ∷ 10 ∷ []
 
-pub point-refused : (old : Network) → readOf point-text old ≡ readResult (refused 5 (whole 4 ∷ [])) old
+pub point-refused : (old : Network) → readOf point-text old ≡ readResult (refused 5 (Whole 4 ∷ [])) old
 unfolding readOf filledOf bytesOf partOf bodyOf trailerOf risingOf knownOf sectionOf ended fieldsOf allSome pieces upto past has digits number amountOf ofBits div neg ofInt
 point-refused old = refl
 

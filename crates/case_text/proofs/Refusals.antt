@@ -7,7 +7,8 @@ use native.Mathlib.Omega.{arith}
 use lib.Dec.{eqb}
 use types.Run.{OneOf, miss}
 use denote.Enum.Declared.{tagOf}
-use Rattle.real.specs.Paper.{refused, whole}
+use Rattle.real.specs.declared.Value.the-variants.{Whole}
+use Rattle.real.specs.Paper.{refused}
 use Rattle.rows.proofs.Check.{the-type as check-type}
 use Rattle.rows.specs.declared.Check.{Check}
 use Rattle.rows.specs.declared.Check.the-variants as Check
@@ -37,7 +38,7 @@ abbrev pub Refused : Reading → Type 0
 Refused v = OneOf (1 ∷ 2 ∷ 3 ∷ 4 ∷ 5 ∷ 6 ∷ 7 ∷ []) (tagOf reading-type v)
 
 -- 01's table of it: its number, and the place beside all but 9
-pub refused-paper : (v : Reading) → Refused v → (n : ℕ) × (at : ℕ) × (0 < n) × (paperOf v ≡ refused n (cond (eqb n 9) [] (whole at ∷ [])))
+pub refused-paper : (v : Reading) → Refused v → (n : ℕ) × (at : ℕ) × (0 < n) × (paperOf v ≡ refused n (cond (eqb n 9) [] (Whole at ∷ [])))
 refused-paper (Reading.Good c) h = absurd (miss (1 ∷ 2 ∷ 3 ∷ 4 ∷ 5 ∷ 6 ∷ 7 ∷ []) 0 tt h)
 refused-paper (Reading.Length at) h = (1, at, omega arith, refl)
 refused-paper (Reading.Trailer at) h = (2, at, omega arith, refl)

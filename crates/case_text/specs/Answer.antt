@@ -3,7 +3,8 @@ pub mod Laws
 use Prim.Native.Nat.{ℕ}
 use mathlib.Core.Bool.{cond}
 use mathlib.Core.List.{List, [], _∷_}
-use Rattle.real.specs.Paper.{Paper, given, refused, whole, onGiven}
+use Rattle.real.specs.declared.Value.the-variants.{Whole}
+use Rattle.real.specs.Paper.{Paper, given, refused, onGiven}
 use Rattle.network.specs.declared.Rows.{Rows}
 use Rattle.network.specs.Network.{Network, networkOf, roomOf, fitsOf}
 use Rattle.rows.specs.declared.Section.the-variants as Section
@@ -17,12 +18,12 @@ use Rattle.case_text.specs.declared.Reading.the-variants as Reading
 -- what 01's table says of an answer: what the text holds, or the refusal's number and its place
 abbrev pub paperOf : Reading → Paper Contents
 paperOf (Reading.Good c) = given c
-paperOf (Reading.Length at) = refused 1 (whole at ∷ [])
-paperOf (Reading.Trailer at) = refused 2 (whole at ∷ [])
-paperOf (Reading.Byte at) = refused 3 (whole at ∷ [])
-paperOf (Reading.Rows at) = refused 6 (whole at ∷ [])
-paperOf (Reading.Form at) = refused 4 (whole at ∷ [])
-paperOf (Reading.Field at) = refused 5 (whole at ∷ [])
+paperOf (Reading.Length at) = refused 1 (Whole at ∷ [])
+paperOf (Reading.Trailer at) = refused 2 (Whole at ∷ [])
+paperOf (Reading.Byte at) = refused 3 (Whole at ∷ [])
+paperOf (Reading.Rows at) = refused 6 (Whole at ∷ [])
+paperOf (Reading.Form at) = refused 4 (Whole at ∷ [])
+paperOf (Reading.Field at) = refused 5 (Whole at ∷ [])
 paperOf Reading.Room = refused 9 []
 
 -- refusal 9: "a reader column shorter than its table's rows"

@@ -9,7 +9,8 @@ use lib.ListN.{length, getD}
 use lib.Seq.{sets}
 use lib.Ieee.{Float, nan, binary64, isNan, toBits}
 use Rattle.io.specs.Digits.{glyph, digits}
-use Rattle.real.specs.Paper.{Value, whole, real}
+use Rattle.real.specs.declared.Value.{Value}
+use Rattle.real.specs.declared.Value.the-variants.{Whole, Real}
 
 -- "in decimal": the digits of n, none of them a leading zero, at most k of them
 unfoldable pub decimalBy : ℕ → ℕ → List ℕ
@@ -26,16 +27,16 @@ printedReal x = cond (isNan x) (110 ∷ 97 ∷ 110 ∷ []) (digits 16 16 (toBits
 
 -- "places and counts in decimal, mismatch as a real", each after a space
 abbrev pub printedValue : Value → List ℕ
-printedValue (whole n) = (32 ∷ []) ++ printedDecimal n
-printedValue (real x) = (32 ∷ []) ++ printedReal x
+printedValue (Whole n) = (32 ∷ []) ++ printedDecimal n
+printedValue (Real x) = (32 ∷ []) ++ printedReal x
 
 -- `ok`, "iterations, residual", LF
 unfoldable pub okLine : ℕ → Float → List ℕ
-okLine iterations residual = (111 ∷ 107 ∷ []) ++ printedValue (whole iterations) ++ printedValue (real residual) ++ (10 ∷ [])
+okLine iterations residual = (111 ∷ 107 ∷ []) ++ printedValue (Whole iterations) ++ printedValue (Real residual) ++ (10 ∷ [])
 
 -- "Then per bus: number, kind (S, V, Q), vm, va, p, q."
 unfoldable pub busLine : ℕ → ℕ → Float → Float → Float → Float → List ℕ
-busLine bus kind vm va p q = printedDecimal bus ++ (32 ∷ []) ++ (kind ∷ []) ++ printedValue (real vm) ++ printedValue (real va) ++ printedValue (real p) ++ printedValue (real q) ++ (10 ∷ [])
+busLine bus kind vm va p q = printedDecimal bus ++ (32 ∷ []) ++ (kind ∷ []) ++ printedValue (Real vm) ++ printedValue (Real va) ++ printedValue (Real p) ++ printedValue (Real q) ++ (10 ∷ [])
 
 -- the lines of the first n buses
 unfoldable pub busLines : ℕ → List Float → List Float → List Float → List Float → List ℕ → List ℕ
@@ -48,7 +49,7 @@ printedValues (v ∷ vs) = printedValue v ++ printedValues vs
 
 -- "`refused`, number, then the values of its table row"
 abbrev pub headOf : ℕ → List ℕ
-headOf number = (114 ∷ 101 ∷ 102 ∷ 117 ∷ 115 ∷ 101 ∷ 100 ∷ []) ++ printedValue (whole number)
+headOf number = (114 ∷ 101 ∷ 102 ∷ 117 ∷ 115 ∷ 101 ∷ 100 ∷ []) ++ printedValue (Whole number)
 
 unfoldable pub refusedLine : ℕ → List Value → List ℕ
 refusedLine number values = headOf number ++ printedValues values ++ (10 ∷ [])

@@ -1,8 +1,9 @@
 // The lines that the solve program prints, written byte by byte into a lent buffer. Each function answers the place after what it wrote.
+use real::Value;
 ghost use mathlib.Core.List.{[], _∷_};
 ghost use Prim.Native.Nat.{_+_, _*_, _≤_};
 ghost use lib.ListN.{length};
-ghost use Rattle.real.specs.Paper.{whole, real};
+ghost use Rattle.real.specs.declared.Value.the-variants.{Whole, Real};
 ghost use Rattle.lines.specs.Lines.{Wrote, printedDecimal, printedReal, printedValue, okLine, busLine, busLines, headOf, refusedLine};
 
 fn put(src: &[u8], at: usize, out: &mut [u8]) -> usize
@@ -49,7 +50,7 @@ fn put_real(x: f64, at: usize, out: &mut [u8]) -> usize
 // A space and a real.
 fn put_gap(x: f64, at: usize, out: &mut [u8]) -> usize
     requires { ⌜ at + 17 ≤ length (now out) ⌝ }
-    ensures { λ r. ⌜ Wrote (now (out .entry)) at (printedValue (real x)) r (now (out .exit)) × (r ≤ at + 17) ⌝ }
+    ensures { λ r. ⌜ Wrote (now (out .entry)) at (printedValue (Real x)) r (now (out .exit)) × (r ≤ at + 17) ⌝ }
 {
     let k = put_byte(b' ', at, out);
     put_real(x, k, out)
@@ -58,10 +59,21 @@ fn put_gap(x: f64, at: usize, out: &mut [u8]) -> usize
 // A space and a whole number.
 fn put_count(n: usize, at: usize, out: &mut [u8]) -> usize
     requires { ⌜ at + 21 ≤ length (now out) ⌝ }
-    ensures { λ r. ⌜ Wrote (now (out .entry)) at (printedValue (whole n)) r (now (out .exit)) × (r ≤ at + 21) ⌝ }
+    ensures { λ r. ⌜ Wrote (now (out .entry)) at (printedValue (Whole n)) r (now (out .exit)) × (r ≤ at + 21) ⌝ }
 {
     let k = put_byte(b' ', at, out);
     put_decimal(n, k, out)
+}
+
+// A space and a value.
+fn put_value(v: Value, at: usize, out: &mut [u8]) -> usize
+    requires { ⌜ at + 21 ≤ length (now out) ⌝ }
+    ensures { λ r. ⌜ Wrote (now (out .entry)) at (printedValue v) r (now (out .exit)) × (r ≤ at + 21) ⌝ }
+{
+    match v {
+        Value::Whole(n) => put_count(n, at, out),
+        Value::Real(x) => put_gap(x, at, out),
+    }
 }
 
 // The first line of a solved case.
@@ -138,34 +150,23 @@ pub fn put_bare(number: usize, out: &mut [u8]) -> usize
     put_byte(b'\n', a, out)
 }
 
-// A refusal with one number: a place of the text, or a row of a table.
-pub fn put_placed(number: usize, place: usize, out: &mut [u8]) -> usize
+// A refusal with one value beside its number.
+pub fn put_one(number: usize, v: Value, out: &mut [u8]) -> usize
     requires { ⌜ 50 ≤ length (now out) ⌝ }
-    ensures { λ r. ⌜ Wrote (now (out .entry)) 0 (refusedLine number (whole place ∷ [])) r (now (out .exit)) × (r ≤ 50) ⌝ }
+    ensures { λ r. ⌜ Wrote (now (out .entry)) 0 (refusedLine number (v ∷ [])) r (now (out .exit)) × (r ≤ 50) ⌝ }
 {
     let a = put_head(number, out);
-    let b = put_count(place, a, out);
+    let b = put_value(v, a, out);
     put_byte(b'\n', b, out)
 }
 
-// A refusal with a row of a table and a field of that row.
-pub fn put_field(number: usize, row: usize, field: usize, out: &mut [u8]) -> usize
+// A refusal with two.
+pub fn put_two(number: usize, v: Value, u: Value, out: &mut [u8]) -> usize
     requires { ⌜ 71 ≤ length (now out) ⌝ }
-    ensures { λ r. ⌜ Wrote (now (out .entry)) 0 (refusedLine number (whole row ∷ whole field ∷ [])) r (now (out .exit)) × (r ≤ 71) ⌝ }
+    ensures { λ r. ⌜ Wrote (now (out .entry)) 0 (refusedLine number (v ∷ u ∷ [])) r (now (out .exit)) × (r ≤ 71) ⌝ }
 {
     let a = put_head(number, out);
-    let b = put_count(row, a, out);
-    let c = put_count(field, b, out);
-    put_byte(b'\n', c, out)
-}
-
-// A refusal with a mismatch and a count of starts.
-pub fn put_spent(number: usize, mismatch: f64, starts: usize, out: &mut [u8]) -> usize
-    requires { ⌜ 67 ≤ length (now out) ⌝ }
-    ensures { λ r. ⌜ Wrote (now (out .entry)) 0 (refusedLine number (real mismatch ∷ whole starts ∷ [])) r (now (out .exit)) × (r ≤ 67) ⌝ }
-{
-    let a = put_head(number, out);
-    let b = put_gap(mismatch, a, out);
-    let c = put_count(starts, b, out);
+    let b = put_value(v, a, out);
+    let c = put_value(u, b, out);
     put_byte(b'\n', c, out)
 }

@@ -1,18 +1,14 @@
 -- 01, "Tables and sizes": an answer as the table of refusals tells it.
 use Prim.Native.Nat.{ℕ}
 use mathlib.Core.List.{List, [], _∷_}
-use lib.Ieee.{Float}
+use Rattle.real.specs.declared.Value.{Value}
+use Rattle.real.specs.declared.Value.the-variants.{Whole, Real}
 
--- "Returned beside it": a place or a count, or a mismatch
-pub data Value : Type 0 where
-  whole : ℕ → Value
-  real : Float → Value
-
--- the place among them, 0 where there is none
+-- "Returned beside it", the first of them: a place, a count, a row; 0 where there is none
 abbrev pub placeIn : List Value → ℕ
 placeIn [] = 0
-placeIn (whole n ∷ vs) = n
-placeIn (real x ∷ vs) = 0
+placeIn (Whole n ∷ vs) = n
+placeIn (Real x ∷ vs) = 0
 
 -- what is given where nothing is refused, or a refusal's number and the values beside it
 pub data Paper (A : Type 0) : Type 0 where

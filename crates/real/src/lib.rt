@@ -52,6 +52,12 @@ pub fn least(a: usize, b: usize) -> usize
     if a < b { a } else { b }
 }
 
+// What a refusal gives beside its number: a place, a count, a row or a field; or a mismatch.
+pub enum Value {
+    Whole(usize),
+    Real(f64),
+}
+
 // The first number that passes a test, or that none does.
 pub enum First {
     At(usize),

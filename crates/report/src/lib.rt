@@ -1,6 +1,7 @@
 // The report: from the bytes of a case text to the bytes that the solve program prints.
 use answer::Answered;
 use case_text::Reading;
+use real::Value;
 use tables::Outcome;
 ghost use Prim.Native.Nat.{_≤_};
 ghost use lib.ListN.{length};
@@ -21,12 +22,12 @@ fn put_reading(r: Reading, out: &mut [u8]) -> usize
 {
     match r {
         Reading::Good(_) => lines::put_bare(9, out),
-        Reading::Length(at) => lines::put_placed(1, at, out),
-        Reading::Trailer(at) => lines::put_placed(2, at, out),
-        Reading::Byte(at) => lines::put_placed(3, at, out),
-        Reading::Rows(at) => lines::put_placed(6, at, out),
-        Reading::Form(at) => lines::put_placed(4, at, out),
-        Reading::Field(at) => lines::put_placed(5, at, out),
+        Reading::Length(at) => lines::put_one(1, Value::Whole(at), out),
+        Reading::Trailer(at) => lines::put_one(2, Value::Whole(at), out),
+        Reading::Byte(at) => lines::put_one(3, Value::Whole(at), out),
+        Reading::Rows(at) => lines::put_one(6, Value::Whole(at), out),
+        Reading::Form(at) => lines::put_one(4, Value::Whole(at), out),
+        Reading::Field(at) => lines::put_one(5, Value::Whole(at), out),
         Reading::Room => lines::put_bare(9, out),
     }
 }
@@ -57,11 +58,26 @@ fn put_outcome(
         }
         Outcome::Counts => lines::put_bare(7, out),
         Outcome::Room => lines::put_bare(9, out),
-        Outcome::Slack { row } => lines::put_placed(8, row, out),
-        Outcome::Generator { row } => lines::put_placed(11, row, out),
-        Outcome::Branch { row, field } => lines::put_field(12, row, field, out),
-        Outcome::Triplet { row, field } => lines::put_field(13, row, field, out),
-        Outcome::NotConverged { mismatch, starts } => lines::put_spent(10, mismatch, starts, out),
+        Outcome::Slack { row } => lines::put_one(8, Value::Whole(row), out),
+        Outcome::Generator { row } => lines::put_one(11, Value::Whole(row), out),
+        Outcome::Branch { row, field } => lines::put_two(
+            12,
+            Value::Whole(row),
+            Value::Whole(field),
+            out,
+        ),
+        Outcome::Triplet { row, field } => lines::put_two(
+            13,
+            Value::Whole(row),
+            Value::Whole(field),
+            out,
+        ),
+        Outcome::NotConverged { mismatch, starts } => lines::put_two(
+            10,
+            Value::Real(mismatch),
+            Value::Whole(starts),
+            out,
+        ),
     }
 }
 

@@ -9,7 +9,8 @@ use lib.Dec.{leb}
 use lib.ListN.{length, getD, replicate}
 use lib.Ieee.{Float, nan}
 use Rattle.real.specs.Tests.{both}
-use Rattle.real.specs.Paper.{Paper, given, refused, whole, real}
+use Rattle.real.specs.declared.Value.the-variants.{Whole, Real}
+use Rattle.real.specs.Paper.{Paper, given, refused}
 use Rattle.real.specs.Literals.{nought}
 use Rattle.network.specs.Network.{Triplets, Network, busCount}
 use Rattle.network.specs.Checks.{counted}
@@ -45,11 +46,11 @@ abbrev pub paperOf : Outcome → Paper (ℕ × Float)
 paperOf (Solved iterations residual) = ok iterations residual
 paperOf Counts = refused 7 []
 paperOf Room = refused 9 []
-paperOf (Slack row) = refused 8 (whole row ∷ [])
-paperOf (Generator row) = refused 11 (whole row ∷ [])
-paperOf (Branch row field) = refused 12 (whole row ∷ whole field ∷ [])
-paperOf (Triplet row field) = refused 13 (whole row ∷ whole field ∷ [])
-paperOf (NotConverged mismatch starts) = refused 10 (real mismatch ∷ whole starts ∷ [])
+paperOf (Slack row) = refused 8 (Whole row ∷ [])
+paperOf (Generator row) = refused 11 (Whole row ∷ [])
+paperOf (Branch row field) = refused 12 (Whole row ∷ Whole field ∷ [])
+paperOf (Triplet row field) = refused 13 (Whole row ∷ Whole field ∷ [])
+paperOf (NotConverged mismatch starts) = refused 10 (Real mismatch ∷ Whole starts ∷ [])
 
 -- the answer columns
 pub record Outs : Type 0 where
@@ -137,7 +138,7 @@ pub data Written : Type 0 where
 
 abbrev pub writeOf : ℕ → Triplets → AcPf → Point → List KindAt → Outs → Written
 writeOf n y (AcPf.Solved iterations residual) point kinds o = written (ok iterations residual) (withAnswer n y point kinds o)
-writeOf n y (AcPf.NotConverged mismatch starts) point kinds o = written (refused 10 (real mismatch ∷ whole starts ∷ [])) o
+writeOf n y (AcPf.NotConverged mismatch starts) point kinds o = written (refused 10 (Real mismatch ∷ Whole starts ∷ [])) o
 
 -- ---- the call
 

@@ -6,7 +6,8 @@ use Prim.Native.Nat.{ℕ, _+_, _*_, min}
 use lib.Dec.{eqb}
 use lib.ListN.{take, replicate}
 use lib.Ieee.{Float, binary64, ofBits}
-use Rattle.real.specs.Paper.{Paper, given, refused, whole, placeIn}
+use Rattle.real.specs.declared.Value.the-variants.{Whole}
+use Rattle.real.specs.Paper.{Paper, given, refused, placeIn}
 use Rattle.real.specs.Each.{each}
 use Rattle.real.specs.Literals.{lit}
 use Rattle.vectors.specs.Words.{pairOf, wordOf}
@@ -27,7 +28,7 @@ placeOf (refused n values) = placeIn values
 
 -- the refusal of a number; 9 has no place
 abbrev pub refusal : ℕ → ℕ → Paper Contents
-refusal n at = refused n (cond (eqb n 9) [] (whole at ∷ []))
+refusal n at = refused n (cond (eqb n 9) [] (Whole at ∷ []))
 
 -- the answer of a number: 0 stands for a good one
 abbrev pub answer : ℕ → ℕ → Contents → Paper Contents

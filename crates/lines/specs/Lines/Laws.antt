@@ -11,7 +11,7 @@ use lib.ListN.{length, getD, set, take, length-append}
 use lib.Seq.{sets, take-suc, length-take-le}
 use lib.Ieee.{Float, binary64, isNan, toBits}
 use Rattle.io.specs.Digits.{glyph, digits, Fewest}
-use Rattle.real.specs.Paper.{Value}
+use Rattle.real.specs.declared.Value.{Value}
 use Rattle.lines.specs.Lines.{decimalBy, printedReal, printedValue, printedValues, headOf, refusedLine, Wrote}
 
 -- ---- bytes after bytes

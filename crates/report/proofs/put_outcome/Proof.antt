@@ -19,19 +19,19 @@ returns-3 : tie.Need-returns-3
 returns-3 c = let p = c .before .before in (rw (p .before .before .enum-told2 .given .1) (p .put-bare2 .ensures .0), omega (arith, p .put-bare2 .ensures .1))
 
 returns-4 : tie.Need-returns-4
-returns-4 c = let p = c .before .before in (rw (p .before .before .before .r2 .given .1) (p .put-placed .ensures .0), omega (arith, p .put-placed .ensures .1))
+returns-4 c = let p = c .before .before in (rw (p .before .before .before .r2 .given .1) (p .put-one .ensures .0), omega (arith, p .put-one .ensures .1))
 
 returns-5 : tie.Need-returns-5
-returns-5 c = let p = c .before .before in (rw (p .before .before .before .r3 .given .1) (p .put-placed2 .ensures .0), omega (arith, p .put-placed2 .ensures .1))
+returns-5 c = let p = c .before .before in (rw (p .before .before .before .r3 .given .1) (p .put-one2 .ensures .0), omega (arith, p .put-one2 .ensures .1))
 
 returns-6 : tie.Need-returns-6
-returns-6 c = let p = c .before .before in (rw (p .before .before .before .r4 .given .1) (p .put-field .ensures .0), omega (arith, p .put-field .ensures .1))
+returns-6 c = let p = c .before .before in (rw (p .before .before .before .r4 .given .1) (p .put-two .ensures .0), omega (arith, p .put-two .ensures .1))
 
 returns-7 : tie.Need-returns-7
-returns-7 c = let p = c .before .before in (rw (p .before .before .before .r5 .given .1) (p .put-field2 .ensures .0), omega (arith, p .put-field2 .ensures .1))
+returns-7 c = let p = c .before .before in (rw (p .before .before .before .r5 .given .1) (p .put-two2 .ensures .0), omega (arith, p .put-two2 .ensures .1))
 
 returns-8 : tie.Need-returns-8
-returns-8 c = let p = c .before .before in (rw (p .before .before .before .r6 .given .1) (p .put-spent .ensures .0), omega (arith, p .put-spent .ensures .1))
+returns-8 c = let p = c .before .before in (rw (p .before .before .before .r6 .given .1) (p .put-two3 .ensures .0), omega (arith, p .put-two3 .ensures .1))
 
 pub put-outcome-spec : {M : Type 1} → statement M
 put-outcome-spec =

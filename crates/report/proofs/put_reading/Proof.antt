@@ -8,22 +8,22 @@ returns : tie.Need-returns
 returns c = let p = c .before .before in (rw (p .before .before .enum-told .given .1) (p .put-bare .ensures .0), omega (arith, p .put-bare .ensures .1))
 
 returns-2 : tie.Need-returns-2
-returns-2 c = let p = c .before .before in (rw (p .before .before .before .r .given .1) (p .put-placed .ensures .0), omega (arith, p .put-placed .ensures .1))
+returns-2 c = let p = c .before .before in (rw (p .before .before .before .r .given .1) (p .put-one .ensures .0), omega (arith, p .put-one .ensures .1))
 
 returns-3 : tie.Need-returns-3
-returns-3 c = let p = c .before .before in (rw (p .before .before .before .r2 .given .1) (p .put-placed2 .ensures .0), omega (arith, p .put-placed2 .ensures .1))
+returns-3 c = let p = c .before .before in (rw (p .before .before .before .r2 .given .1) (p .put-one2 .ensures .0), omega (arith, p .put-one2 .ensures .1))
 
 returns-4 : tie.Need-returns-4
-returns-4 c = let p = c .before .before in (rw (p .before .before .before .r3 .given .1) (p .put-placed3 .ensures .0), omega (arith, p .put-placed3 .ensures .1))
+returns-4 c = let p = c .before .before in (rw (p .before .before .before .r3 .given .1) (p .put-one3 .ensures .0), omega (arith, p .put-one3 .ensures .1))
 
 returns-5 : tie.Need-returns-5
-returns-5 c = let p = c .before .before in (rw (p .before .before .before .r4 .given .1) (p .put-placed4 .ensures .0), omega (arith, p .put-placed4 .ensures .1))
+returns-5 c = let p = c .before .before in (rw (p .before .before .before .r4 .given .1) (p .put-one4 .ensures .0), omega (arith, p .put-one4 .ensures .1))
 
 returns-6 : tie.Need-returns-6
-returns-6 c = let p = c .before .before in (rw (p .before .before .before .r5 .given .1) (p .put-placed5 .ensures .0), omega (arith, p .put-placed5 .ensures .1))
+returns-6 c = let p = c .before .before in (rw (p .before .before .before .r5 .given .1) (p .put-one5 .ensures .0), omega (arith, p .put-one5 .ensures .1))
 
 returns-7 : tie.Need-returns-7
-returns-7 c = let p = c .before .before in (rw (p .before .before .before .r6 .given .1) (p .put-placed6 .ensures .0), omega (arith, p .put-placed6 .ensures .1))
+returns-7 c = let p = c .before .before in (rw (p .before .before .before .r6 .given .1) (p .put-one6 .ensures .0), omega (arith, p .put-one6 .ensures .1))
 
 returns-8 : tie.Need-returns-8
 returns-8 c = let p = c .before .before in (rw (p .before .before .enum-told2 .given .1) (p .put-bare2 .ensures .0), omega (arith, p .put-bare2 .ensures .1))

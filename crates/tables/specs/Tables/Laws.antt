@@ -11,7 +11,9 @@ use lib.Dec.{eqb}
 use lib.Ieee.{Float, nan}
 use Rattle.real.specs.Tests.{no-case, both-l, both-r}
 use Rattle.real.specs.Literals.{nought}
-use Rattle.real.specs.Paper.{Value, whole, real, placeIn, Paper, given, refused}
+use Rattle.real.specs.declared.Value.{Value}
+use Rattle.real.specs.declared.Value.the-variants.{Whole, Real}
+use Rattle.real.specs.Paper.{placeIn, Paper, given, refused}
 use Rattle.network.specs.Network.{Triplets, Network, busCount}
 use Rattle.network.specs.Checks.{counted}
 use Rattle.network.specs.Missing.{missingIn}
@@ -126,8 +128,8 @@ module _ (start : AcStart) (t : Network) (o : Outs) (w : List Float) (c : Checke
 -- the outcome that an answer on paper is of
 abbrev spent : List Value → Outcome
 spent [] = Counts
-spent (whole n ∷ vs) = Counts
-spent (real x ∷ vs) = NotConverged x (placeIn vs)
+spent (Whole n ∷ vs) = Counts
+spent (Real x ∷ vs) = NotConverged x (placeIn vs)
 
 -- the value behind the first
 abbrev second : List Value → ℕ
