@@ -136,7 +136,7 @@ function missing_bus(letter, row, field,    at, k, found, buses) {
     if (at >= section_end || field_kind[letter, field + 1] != "N" || found[field + 2] + 0 < buses + 0) return print_other_case()
     tell_at(at + 2 + (field ? length(found[2]) + 1 : 0), "there is no bus " found[field + 2] "; " \
         (buses > 1 ? "the buses are 0 to " (buses - 1) ", one for each B line" : buses ? "the only bus is 0" : "the case has no B line") \
-        "; mend the number or give the bus its B line, " then_trailer)
+        "; mend the number, take the line out or give the bus its B line, " then_trailer)
 }
 
 function not_converged(    mismatch, sentence) {

@@ -12,11 +12,11 @@ use Rattle.columns.specs.Columns.{rowCount, numberField}
 use Rattle.trailer.specs.Trailer.{bytesOf}
 
 -- the section of a table whose rows name buses
-abbrev pub sectionOf : Naming → Section
-sectionOf Naming.Slack = Section.R
-sectionOf Naming.Generator = Section.G
-sectionOf Naming.Branch = Section.L
-sectionOf Naming.Triplet = Section.Y
+abbrev pub namingSection : Naming → Section
+namingSection Naming.Slack = Section.R
+namingSection Naming.Generator = Section.G
+namingSection Naming.Branch = Section.L
+namingSection Naming.Triplet = Section.Y
 
 -- how many bus numbers its lines begin with
 abbrev pub busFields : Naming → ℕ
@@ -27,16 +27,16 @@ busFields Naming.Triplet = 2
 
 module _ (s : List ℕ) (t : ℕ) where
   -- how many buses a text has whose trailer starts at t, and the bus number in field j of line i
-  abbrev pub busLines : ℕ
-  busLines = rowCount (bytesOf Section.B s t)
+  abbrev pub textBuses : ℕ
+  textBuses = rowCount (bytesOf Section.B s t)
 
   abbrev pub busNumber : Naming → ℕ → ℕ → ℕ
-  busNumber table i j = numberField j (getD (rowsOf (bytesOf (sectionOf table) s t)) i [])
+  busNumber table i j = numberField j (getD (rowsOf (bytesOf (namingSection table) s t)) i [])
 
   -- field j of line i names a bus that is not there; no field before it in that line, and no line before it in that section, does
-  pub record FirstLine (table : Naming) (i j : ℕ) : Type 0 where
-    pub inside : i < rowCount (bytesOf (sectionOf table) s t)
+  pub record LowestLine (table : Naming) (i j : ℕ) : Type 0 where
+    pub inside : i < rowCount (bytesOf (namingSection table) s t)
     pub field : j < busFields table
-    pub names : busLines ≤ busNumber table i j
-    pub fields-before : (k : ℕ) → k < j → busNumber table i k < busLines
-    pub lines-before : (h k : ℕ) → h < i → k < busFields table → busNumber table h k < busLines
+    pub names : textBuses ≤ busNumber table i j
+    pub fields-before : (k : ℕ) → k < j → busNumber table i k < textBuses
+    pub lines-before : (h k : ℕ) → h < i → k < busFields table → busNumber table h k < textBuses

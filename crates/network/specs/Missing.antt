@@ -58,21 +58,21 @@ missingIn t = missingBy (busCount t) (t .slacks .bus) (t .generators .bus) (t .b
 
 -- ---- as facts
 
--- row i is the lowest that names a missing bus; it has one bus number
-pub record FirstRow (n : ℕ) (l : List ℕ) (i field : ℕ) : Type 0 where
+-- row i is the lowest that names a missing bus, in a table whose rows have one bus number
+pub record LowestRow (n : ℕ) (l : List ℕ) (i field : ℕ) : Type 0 where
   pub inside : i < length l
   pub names : n ≤ getD l i 0
   pub lower : (j : ℕ) → j < i → getD l j 0 < n
   pub one-field : field ≡ 0
 
--- the same of a row with two: the field told is missing, and so is no lower one
-pub record FirstEnd (n : ℕ) (a b : List ℕ) (i field : ℕ) : Type 0 where
+-- the same of a row with two bus numbers: field 0, or field 1 where the first of them is not missing
+pub record LowestEnd (n : ℕ) (a b : List ℕ) (i field : ℕ) : Type 0 where
   pub inside : i < length a
   pub names : ((field ≡ 0) × (n ≤ getD a i 0)) ⊎ ((field ≡ 1) × (getD a i 0 < n) × (n ≤ getD b i 0))
   pub lower-first : (j : ℕ) → j < i → getD a j 0 < n
   pub lower-second : (j : ℕ) → j < i → getD b j 0 < n
 
--- each bus number is below the bus count: in the first table, the first two, three, all four
+-- each bus number is below the bus count: of the slack rows; of generators too; of branches too; of triplets too
 abbrev pub SlacksNamed : Network → Type 0
 SlacksNamed t = Below (busCount t) (t .slacks .bus)
 
@@ -85,10 +85,10 @@ BranchesNamed t = GeneratorsNamed t × Below (busCount t) (t .branches .from) ×
 abbrev pub TripletsNamed : Network → Type 0
 TripletsNamed t = BranchesNamed t × Below (busCount t) (t .triplets .row) × Below (busCount t) (t .triplets .col)
 
--- what is meant by an answer
+-- what an answer means: its row is the lowest at fault of its table, and no table before it has one
 abbrev pub Means : Network → MissingBus → Type 0
-Means t (At Slack i f) = FirstRow (busCount t) (t .slacks .bus) i f
-Means t (At Generator i f) = SlacksNamed t × FirstRow (busCount t) (t .generators .bus) i f
-Means t (At Branch i f) = GeneratorsNamed t × FirstEnd (busCount t) (t .branches .from) (t .branches .to) i f
-Means t (At Triplet i f) = BranchesNamed t × FirstEnd (busCount t) (t .triplets .row) (t .triplets .col) i f
+Means t (At Slack i f) = LowestRow (busCount t) (t .slacks .bus) i f
+Means t (At Generator i f) = SlacksNamed t × LowestRow (busCount t) (t .generators .bus) i f
+Means t (At Branch i f) = GeneratorsNamed t × LowestEnd (busCount t) (t .branches .from) (t .branches .to) i f
+Means t (At Triplet i f) = BranchesNamed t × LowestEnd (busCount t) (t .triplets .row) (t .triplets .col) i f
 Means t Nowhere = TripletsNamed t

@@ -10,9 +10,11 @@ abbrev pub earlier : First → First → First
 earlier (At i) next = At i
 earlier Nowhere next = next
 
+-- i where it passes
 abbrev pub ifAt : Bool → ℕ → First
 ifAt passes i = cond passes (At i) Nowhere
 
+-- the lowest number below k that passes
 unfoldable pub firstBelow : ℕ → (ℕ → Bool) → First
 firstBelow zero t = Nowhere
 firstBelow (suc k) t = earlier (firstBelow k t) (ifAt (t k) k)

@@ -20,7 +20,7 @@ use Rattle.case_text.specs.declared.Reading.{Reading}
 use Rattle.case_text.specs.declared.Reading.the-variants as Reading
 use Rattle.case_text.specs.Text.{textOf}
 use Rattle.case_text.specs.Text.Laws.{Accepted, Where, accepted-has, text-sound, never-room}
-use Rattle.case_text.specs.Named.{FirstLine}
+use Rattle.case_text.specs.Named.{LowestLine}
 use Rattle.case_text.specs.Named.Laws.{lines-of, told-line}
 use Rattle.case_text.specs.Answer as Reader
 use Rattle.case_text.specs.Answer.{withRoom, judgedOf, filledOf, readResultOf, readOf}
@@ -87,10 +87,10 @@ answer-never-7-9 s o w room = (rw (reader-never-9 s) (go (textOf s) (Reader.pape
 -- ---- a row that names a missing bus
 
 -- the refusal's row is a line of the text: the first of its section that names a missing bus, by the field told
-pub line-told : (s : List ℕ) (o : Outs) (w : List Float) → ((n : ℕ) → n ≤ 32 → roomy n (lengthsIn o) (length w) ≡ true) → (c : Contents) → textOf s ≡ Reading.Good c
+pub refused-line : (s : List ℕ) (o : Outs) (w : List Float) → ((n : ℕ) → n ≤ 32 → roomy n (lengthsIn o) (length w) ≡ true) → (c : Contents) → textOf s ≡ Reading.Good c
     → (table : Naming) (i j : ℕ) → missingIn (firstRows (c .rows) (filledOf s (trailerStart s) blank)) ≡ MissingBus.At table i j
-    → (textAnswerOf s o w ≡ textAnswer (c .rows .buses) (paperOf (rowRefusal table i j)) o w) × FirstLine s (trailerStart s) table i j
-line-told s o w room c h table i j e =
+    → (textAnswerOf s o w ≡ textAnswer (c .rows .buses) (paperOf (rowRefusal table i j)) o w) × LowestLine s (trailerStart s) table i j
+refused-line s o w room c h table i j e =
     let a = accepted-has s c h in
     let fits = blank-holds (c .rows) (rows-most s (trailerStart s) c a) in
     (answer-never-7-9 s o w room .0 ∙ rw (h, e), told-line s (trailerStart s) _ (lines-of s (trailerStart s) c a blank fits) table i j e)

@@ -85,8 +85,8 @@ no-number : (j : ℕ) → numberField j [] ≡ 0
 unfolding pieces
 no-number j = rw add-one
 
-pub number-at : (j : ℕ) (l : List ℕ) (i : ℕ) → getD (columnOf (numberField j) l) i 0 ≡ numberField j (getD (rowsOf l) i [])
-number-at j l i = rw (no-number j) at (List·getD-map (numberField j) (rowsOf l) i [])
+pub number-of-line : (j : ℕ) (l : List ℕ) (i : ℕ) → getD (columnOf (numberField j) l) i 0 ≡ numberField j (getD (rowsOf l) i [])
+number-of-line j l i = rw (no-number j) at (List·getD-map (numberField j) (rowsOf l) i [])
 
 -- ---- `?` is no real
 

@@ -16,7 +16,7 @@ use Rattle.real.specs.declared.First.the-variants as First
 use Rattle.network.specs.Below.{Below}
 use Rattle.network.specs.Network.{Network, busCount}
 use Rattle.network.specs.Missing.{busMissing, endMissing, firstField, rowIn, inColumn, inEnds, orNext, missingIn}
-use Rattle.network.specs.Missing.{FirstRow, FirstEnd, SlacksNamed, GeneratorsNamed, BranchesNamed, TripletsNamed, Means}
+use Rattle.network.specs.Missing.{LowestRow, LowestEnd, SlacksNamed, GeneratorsNamed, BranchesNamed, TripletsNamed, Means}
 use Rattle.network.specs.declared.Naming.the-variants.{Slack, Generator, Branch, Triplet}
 use Rattle.network.specs.declared.MissingBus.{MissingBus}
 use Rattle.network.specs.declared.MissingBus.the-variants.{At, Nowhere}
@@ -34,7 +34,7 @@ module _ (n : ℕ) (l : List ℕ) where
   pub below-nowhere : Below n l → firstBelow (length l) (busMissing n l) ≡ First.Nowhere
   below-nowhere h = clear-nowhere (busMissing n l) (length l) (λ i p. lt-leb n (getD l i 0) (h i p))
 
-  at-row : (i : ℕ) → firstBelow (length l) (busMissing n l) ≡ First.At i → FirstRow n l i 0
+  at-row : (i : ℕ) → firstBelow (length l) (busMissing n l) ≡ First.At i → LowestRow n l i 0
   at-row i h =
       let w = at-lowest (busMissing n l) (length l) i h in
       record {
@@ -44,7 +44,7 @@ module _ (n : ℕ) (l : List ℕ) where
         one-field = refl;
       }
 
-  row-at : (i f : ℕ) → FirstRow n l i f → firstBelow (length l) (busMissing n l) ≡ First.At i
+  row-at : (i f : ℕ) → LowestRow n l i f → firstBelow (length l) (busMissing n l) ≡ First.At i
   row-at i f w =
       lowest-at (busMissing n l) (length l) i (record {
         inside = w .inside;
@@ -55,8 +55,8 @@ module _ (n : ℕ) (l : List ℕ) where
 -- ---- two columns of one length
 
 module _ (n : ℕ) (a b : List ℕ) where
-  missing-end : (i : ℕ) → endMissing n a b i ≡ true → let f = firstField n (getD a i 0) in ((f ≡ 0) × (n ≤ getD a i 0)) ⊎ ((f ≡ 1) × (getD a i 0 < n) × (n ≤ getD b i 0))
-  missing-end i h = go (leb n (getD a i 0)) refl h
+  either-end : (i : ℕ) → endMissing n a b i ≡ true → let f = firstField n (getD a i 0) in ((f ≡ 0) × (n ≤ getD a i 0)) ⊎ ((f ≡ 1) × (getD a i 0 < n) × (n ≤ getD b i 0))
+  either-end i h = go (leb n (getD a i 0)) refl h
     where
       go : (t : Bool) → leb n (getD a i 0) ≡ t → endMissing n a b i ≡ true → let f = cond {A = ℕ} t 0 1 in ((f ≡ 0) × (n ≤ getD a i 0)) ⊎ ((f ≡ 1) × (getD a i 0 < n) × (n ≤ getD b i 0))
       go true e h = inl (refl, leb-true n _ e)
@@ -75,26 +75,26 @@ module _ (n : ℕ) (a b : List ℕ) where
   below-ends : length b ≡ length a → Below n a → Below n b → firstBelow (length a) (endMissing n a b) ≡ First.Nowhere
   below-ends same h k = clear-nowhere (endMissing n a b) (length a) (λ i p. neither i (h i p) (k i (rw same p)))
 
-  at-end : (i : ℕ) → firstBelow (length a) (endMissing n a b) ≡ First.At i → FirstEnd n a b i (firstField n (getD a i 0))
-  at-end i h =
+  at-ends : (i : ℕ) → firstBelow (length a) (endMissing n a b) ≡ First.At i → LowestEnd n a b i (firstField n (getD a i 0))
+  at-ends i h =
       let w = at-lowest (endMissing n a b) (length a) i h in
       record {
         inside = w .inside;
-        names = missing-end i (w .passes);
+        names = either-end i (w .passes);
         lower-first = λ j p. leb-false n (getD a j 0) (nor-left _ (busMissing n b j) (w .lower j p));
         lower-second = λ j p. leb-false n (getD b j 0) (nor-right (busMissing n a j) _ (w .lower j p));
       }
 
-  end-at : (i f : ℕ) → FirstEnd n a b i f → firstBelow (length a) (endMissing n a b) ≡ First.At i
-  end-at i f w =
+  ends-at : (i f : ℕ) → LowestEnd n a b i f → firstBelow (length a) (endMissing n a b) ≡ First.At i
+  ends-at i f w =
       lowest-at (endMissing n a b) (length a) i (record {
         inside = w .inside;
         passes = ⊎-elim (λ x. or-first (busMissing n b i) (le-leb n _ (x .1))) (λ x. or-last (busMissing n a i) (le-leb n _ (x .2))) (w .names);
         lower = λ j p. neither j (w .lower-first j p) (w .lower-second j p);
       })
 
-  end-field : (i f : ℕ) → FirstEnd n a b i f → f ≡ firstField n (getD a i 0)
-  end-field i f w = ⊎-elim (λ x. rw (le-leb n _ (x .1)) (x .0)) (λ x. rw (lt-leb n _ (x .1)) (x .0)) (w .names)
+  ends-field : (i f : ℕ) → LowestEnd n a b i f → f ≡ firstField n (getD a i 0)
+  ends-field i f w = ⊎-elim (λ x. rw (le-leb n _ (x .1)) (x .0)) (λ x. rw (lt-leb n _ (x .1)) (x .0)) (w .names)
 
 -- ---- the four tables
 
@@ -134,8 +134,8 @@ module _ (t : Network) (ends : length (t .branches .to) ≡ length (t .branches 
           → Means t (orNext (rowIn Slack (λ i. 0) r) (orNext (rowIn Generator (λ i. 0) g) (orNext (rowIn Branch (λ i. firstField n (getD (t .branches .from) i 0)) l) (rowIn Triplet (λ i. firstField n (getD (t .triplets .row) i 0)) y))))
       told (First.At i) g l y er eg el ey = at-row n (t .slacks .bus) i er
       told First.Nowhere (First.At i) l y er eg el ey = (good-slacks er, at-row n (t .generators .bus) i eg)
-      told First.Nowhere First.Nowhere (First.At i) y er eg el ey = (good-generators er eg, at-end n (t .branches .from) (t .branches .to) i el)
-      told First.Nowhere First.Nowhere First.Nowhere (First.At i) er eg el ey = (good-branches er eg el, at-end n (t .triplets .row) (t .triplets .col) i ey)
+      told First.Nowhere First.Nowhere (First.At i) y er eg el ey = (good-generators er eg, at-ends n (t .branches .from) (t .branches .to) i el)
+      told First.Nowhere First.Nowhere First.Nowhere (First.At i) er eg el ey = (good-branches er eg el, at-ends n (t .triplets .row) (t .triplets .col) i ey)
       told First.Nowhere First.Nowhere First.Nowhere First.Nowhere er eg el ey =
           let b = ends-below n (t .triplets .row) (t .triplets .col) places ey in
           (good-branches er eg el, b .0, b .1)
@@ -157,8 +157,8 @@ module _ (t : Network) (ends : length (t .branches .to) ≡ length (t .branches 
   unfolding missingIn inColumn inEnds
   means-missing (At Slack i f) h = rw (row-at n _ i f h, h .one-field)
   means-missing (At Generator i f) h = rw (no-slack (h .0), row-at n _ i f (h .1), h .1 .one-field)
-  means-missing (At Branch i f) h = rw (no-slack (h .0 .0), no-generator (h .0), end-at n _ _ i f (h .1), end-field n _ _ i f (h .1))
+  means-missing (At Branch i f) h = rw (no-slack (h .0 .0), no-generator (h .0), ends-at n _ _ i f (h .1), ends-field n _ _ i f (h .1))
   means-missing (At Triplet i f) h =
       let b = h .0 in
-      rw (no-slack (b .0 .0), no-generator (b .0), no-branch b, end-at n _ _ i f (h .1), end-field n _ _ i f (h .1))
+      rw (no-slack (b .0 .0), no-generator (b .0), no-branch b, ends-at n _ _ i f (h .1), ends-field n _ _ i f (h .1))
   means-missing Nowhere h = let b = h .0 in rw (no-slack (b .0 .0), no-generator (b .0), no-branch b, no-triplet h)
