@@ -60,21 +60,22 @@ pub buses-few : (t : Network) → counted t ≡ true → busCount t ≤ 32
 unfolding counted
 buses-few t h = buses-sized (t .buses) (both-l _ _ h) .few
 
-pub branches-even : (t : Network) → counted t ≡ true → SizedBranches (t .branches)
+-- what refusal 7 leaves of the two tables whose rows name two buses
+pub counted-branches : (t : Network) → counted t ≡ true → SizedBranches (t .branches)
 unfolding counted
-branches-even t h = branches-sized (t .branches) (both-l _ _ (both-r _ _ (both-r _ _ (both-r _ _ h))))
+counted-branches t h = branches-sized (t .branches) (both-l _ _ (both-r _ _ (both-r _ _ (both-r _ _ h))))
 
-pub triplets-even : (t : Network) → counted t ≡ true → SizedTriplets (t .triplets)
+pub counted-triplets : (t : Network) → counted t ≡ true → SizedTriplets (t .triplets)
 unfolding counted
-triplets-even t h = triplets-sized (t .triplets) (both-r _ _ (both-r _ _ (both-r _ _ (both-r _ _ h))))
+counted-triplets t h = triplets-sized (t .triplets) (both-r _ _ (both-r _ _ (both-r _ _ (both-r _ _ h))))
 
 pub well-indexed : (t : Network) → counted t ≡ true → missingIn t ≡ Nowhere → WellIndexed t
 unfolding counted
 well-indexed t h k =
     let h₁ = both-r _ _ h in
     let h₂ = both-r _ _ h₁ in
-    let l = branches-even t h in
-    let y = triplets-even t h in
+    let l = counted-branches t h in
+    let y = counted-triplets t h in
     let named : TripletsNamed t = rw k at (missing-means t (l .to) (y .col)) in
     record {
       buses = buses-sized (t .buses) (both-l _ _ h);

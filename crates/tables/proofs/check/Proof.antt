@@ -3,7 +3,7 @@ use mathlib.Core.Path.{sym, ap, _∙_}
 use borrow.Author.Needs.{needs}
 use borrow.Author.Tests.{not-true, not-false}
 use Rattle.network.specs.Missing.{missingIn}
-use Rattle.network.specs.Checks.Laws.{branches-even, triplets-even}
+use Rattle.network.specs.Checks.Laws.{counted-branches, counted-triplets}
 use Rattle.tables.specs.Tables.{busRefusal}
 use Rattle.tables.specs.Tables.Laws.{check-counts, check-room, check-buses}
 use Rattle.tables.proofs.check.Statement.{statement}
@@ -21,7 +21,7 @@ missing-bus-requires : tie.Need-missing-bus-requires
 missing-bus-requires c κs =
     let a = c .before .before in
     let h = sym (a .before .counted .ensures) ∙ not-false _ (a .if1 .left) in
-    (branches-even _ h .to, triplets-even _ h .col)
+    (counted-branches _ h .to, counted-triplets _ h .col)
 
 returns-3 : tie.Need-returns-3
 unfolding missingIn
