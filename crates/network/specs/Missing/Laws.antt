@@ -125,13 +125,20 @@ module _ (t : Network) (ends : length (t .branches .to) ≡ length (t .branches 
   good-branches : slack-row ≡ First.Nowhere → generator-row ≡ First.Nowhere → branch-row ≡ First.Nowhere → BranchesNamed t
   good-branches r g l = let b = ends-below n (t .branches .from) (t .branches .to) ends l in (good-generators r g, b .0, b .1)
 
+  -- what is told of them all
+  abbrev joined : First → First → First → First → MissingBus
+  joined r g l y =
+      orNext (rowIn Slack (λ i. 0) r)
+      (orNext (rowIn Generator (λ i. 0) g)
+      (orNext (rowIn Branch (λ i. firstField n (getD (t .branches .from) i 0)) l) (rowIn Triplet (λ i. firstField n (getD (t .triplets .row) i 0)) y)))
+
   -- the row told is at fault, and no lower row, field or table is
   pub missing-means : Means t (missingIn t)
   unfolding missingIn inColumn inEnds
   missing-means = told slack-row generator-row branch-row triplet-row refl refl refl refl
     where
       told : (r g l y : First) → slack-row ≡ r → generator-row ≡ g → branch-row ≡ l → triplet-row ≡ y
-          → Means t (orNext (rowIn Slack (λ i. 0) r) (orNext (rowIn Generator (λ i. 0) g) (orNext (rowIn Branch (λ i. firstField n (getD (t .branches .from) i 0)) l) (rowIn Triplet (λ i. firstField n (getD (t .triplets .row) i 0)) y))))
+          → Means t (joined r g l y)
       told (First.At i) g l y er eg el ey = at-row n (t .slacks .bus) i er
       told First.Nowhere (First.At i) l y er eg el ey = (good-slacks er, at-row n (t .generators .bus) i eg)
       told First.Nowhere First.Nowhere (First.At i) y er eg el ey = (good-generators er eg, at-ends n (t .branches .from) (t .branches .to) i el)
