@@ -31,7 +31,7 @@ def refused(rng):
 
 
 def wide(x):
-    """A real with all the 15 digits that it may have; other cells as they are."""
+    """A real of 15 digits, zeros in front counted; other cells as they are."""
     if isinstance(x, str):
         return x
     whole = len(str(int(abs(x))))
@@ -39,13 +39,14 @@ def wide(x):
 
 
 def longest(rng):
-    """Every table full and every real of 15 digits: a good text can't have many more bytes."""
-    c = f.full(rng)
-    c.buses = [[row[0], *map(wide, row[1:])] for row in c.buses]
-    c.slacks = [[row[0], wide(row[1])] for row in c.slacks]
-    c.gens = [[row[0], *map(wide, row[1:])] for row in c.gens]
-    c.triplets = [[*row[:2], *map(wide, row[2:])] for row in c.triplets]
-    return c.text()
+    """Every table full and every real of 15 digits: without more zeros in front a good text can't have many more bytes."""
+    return f.respelled(f.full(rng), wide).text()
+
+
+def zeros(rng):
+    """The paper's listing with zeros in front of its voltage, as many as a text has room for."""
+    c = f.listing()
+    return f.filled(c, c.buses[0], 1, 1, 0).text()
 
 
 def solved(text, answer, met):
@@ -59,6 +60,7 @@ DRAWN = {
     "refused10": (refused, lambda text, answer, met: answer.startswith(b"refused 10 ") and answer.endswith(b" 6\n")),
     "longest": (longest, solved),
     "bytes32768": (f.long, lambda text, answer, met: len(text) == 32768),
+    "zeros32768": (zeros, lambda text, answer, met: len(text) == 32768 and solved(text, answer, met)),
 }
 
 

@@ -103,7 +103,7 @@ function wrong_field(    end, kind, found) {
     for (end = place; end < size && byte[end] != 32 && byte[end] != 10; end++);
     found = text(place, end)
     kind = field_kind[line_letter(), field_number(place)]
-    tell_at(place, found " is " (kind == "K" ? "no kind: it is V (voltage given) or Q (power given)" : kind == "N" ? wrong_number(found) : wrong_real(found)) "; mend it, " then_trailer)
+    tell_at(place, brief(found) " is " (kind == "K" ? "no kind: it is V (voltage given) or Q (power given)" : kind == "N" ? wrong_number(found) : wrong_real(found)) "; mend it, " then_trailer)
 }
 
 function wrong_number(found) {
@@ -112,14 +112,23 @@ function wrong_number(found) {
     return "no bus number: it is 1 to 3 digits and nothing else"
 }
 
-function wrong_real(found,    digits) {
+# A field that fits in a sentence; of a longer one its beginning, its end and how long it is.
+function brief(found) {
+    if (length(found) <= 60) return found
+    return substr(found, 1, 30) ".." substr(found, length(found) - 19) " (" length(found) " characters)"
+}
+
+function wrong_real(found,    digits, point) {
     digits = found
     gsub(/[^0-9]/, "", digits)
+    sub(/^0+/, "", digits)
+    point = index(found, ".")
     if (found == "?") return "for a stored voltage or angle alone; give a number here"
     if (found ~ /^-?\./) return "no number: a digit must stand before the point"
     if (found ~ /\.$/) return "no number: a digit must stand behind the point"
-    if (found ~ /^-?[0-9]+(\.[0-9]+)?$/) return "no number: it has " length(digits) " digits, leading zeros counted, and 15 are the most"
-    return "no number: it is digits, with a minus in front and a point inside where needed"
+    if (found !~ /^-?[0-9]+(\.[0-9]+)?$/) return "no number: it is digits, with a minus in front and a point inside where needed"
+    if (length(digits) > 15) return "no number: it has " length(digits) " digits, zeros in front not counted, and 15 are the most"
+    return "no number: it has " (length(found) - point) " digits behind the point, and 22 are the most"
 }
 
 function too_many_rows(    letter) {

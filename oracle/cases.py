@@ -61,13 +61,13 @@ def samples():
 
 
 def texts(seed, count):
-    """Each round: a network of the next size from 1 to 32, a large text, one of each other slot, and two that name a missing bus. These have a random source
-    of their own, so that they change no other text."""
-    rng, other = random.Random(seed), random.Random(f"missing {seed}")
+    """Each round: a network of the next size from 1 to 32, a large text, one of each other slot, two that name a missing bus, and two with padded numbers.
+    The last two kinds have random sources of their own, so that they change no other text."""
+    rng, missing, padded = random.Random(seed), random.Random(f"missing {seed}"), random.Random(f"padded {seed}")
     out, k = [], 0
     while len(out) < count:
         drawn = [f.sized(rng, 1 + k % 32), LARGE[k % len(LARGE)](rng)] + [family(rng) for family in ROUND]
-        drawn += [f.missing(other, 2 * k), f.missing(other, 2 * k + 1)]
+        drawn += [f.missing(missing, 2 * k), f.missing(missing, 2 * k + 1), f.padded(padded, 2 * k), f.padded(padded, 2 * k + 1)]
         out += [c if isinstance(c, bytes) else c.text() for c in drawn]
         k += 1
     return out[:count]
@@ -138,6 +138,31 @@ def network_classes(text):
     }
 
 
+def digits(field):
+    """How many digits a field of a real's form has, how many of them request 2 counts, and how many are decimals; zeros of any other field."""
+    m = re.fullmatch("-?([0-9]+)(?:[.]([0-9]+))?", field)
+    whole, decimals = m.groups("") if m else ("", "")
+    return len(whole + decimals), len((whole + decimals).lstrip("0")), len(decimals)
+
+
+def real_classes(text, answer):
+    """The classes of a text whose reals are all taken, by those that 01 refused."""
+    buses, slack_rows, gens, _, triplets = tables(text)
+    fields = {x for rows, first in zip((buses, slack_rows, gens, triplets), f.REALS.values()) for row in rows for x in row[first:]}
+    long = [(x, counted, decimals) for x in fields for n, counted, decimals in [digits(x)] if n > 15]
+    return {
+        "a real of more than 15 digits": bool(long),
+        "solved with a real of more than 15 digits": answer.startswith(b"ok") and bool(long),
+        "15 counted digits behind zeros": any(counted == 15 for _, counted, _ in long),
+        "15 counted digits behind zeros, the last of them 0": any(counted == 15 and x.endswith("0") for x, counted, _ in long),
+        "22 decimals": any(decimals == 22 for _, _, decimals in long),
+        "15 counted digits and 22 decimals": any(counted == 15 and decimals == 22 for _, counted, decimals in long),
+        "zeros alone, more than 15": any(counted == 0 for _, counted, _ in long),
+        "a minus before zeros alone, more than 15": any(counted == 0 and x.startswith("-") for x, counted, _ in long),
+        "a real of more than 15,000 zeros": any(len(x) - counted > 15000 for x, counted, _ in long),
+    }
+
+
 def run_classes(text, answer, m):
     """The classes of a run that reached the first start."""
     ok = answer.startswith(b"ok")
@@ -176,11 +201,24 @@ def missing_classes(text, number):
     return found
 
 
+def digit_classes(text, number, place):
+    """Where the refusal is 5: which of request 2's limits the field passes by one."""
+    field = re.match("[^ \n]*", text[place:].decode())[0] if number == 5 else ""
+    _, counted, decimals = digits(field)
+    return {
+        "refused 5 for 16 counted digits": counted == 16 and decimals <= 22,
+        "refused 5 for 16 counted digits, the last of them 0": counted == 16 and decimals <= 22 and field.endswith("0"),
+        "refused 5 for 23 decimals": counted in range(1, 16) and decimals == 23,
+        "refused 5 for 23 decimals, zeros alone": counted == 0 and decimals == 23,
+    }
+
+
 def refusal_classes(text, answer):
     """Refusals before the first start. A text never meets 7 and 9: the reader gives columns of one length, and the program lends enough."""
     number, place = (answer.split() + [b"0"])[1:3]
     found = {f"refused {k}": number == b"%d" % k for k in (2, 3, 4, 5, *f.NAMING)}
     found.update(missing_classes(text, int(number)))
+    found.update(digit_classes(text, int(number), int(place)))
     found["refused 1, short"] = number == b"1" and len(text) < 38
     found["refused 1, long"] = number == b"1" and len(text) > 32768
     section = [letter for letter, start in zip(f.SIZES, starts(text)) if start <= int(place)][-1] if number == b"6" else ""
@@ -191,9 +229,10 @@ def refusal_classes(text, answer):
 def classes(batch, out, met):
     """How many texts fall in each class, those with none too."""
     nothing = f.join("F", [b""] * 5)
-    count = dict.fromkeys({**network_classes(nothing), **run_classes(nothing, b"", Counter()), **refusal_classes(b"", b"refused 1 0")}, 0)
+    names = {**network_classes(nothing), **real_classes(nothing, b""), **run_classes(nothing, b"", Counter()), **refusal_classes(b"", b"refused 1 0")}
+    count = dict.fromkeys(names, 0)
     for t, a, m in zip(batch, out, met):
-        found = {**network_classes(t), **run_classes(t, a, m)} if m["starts"] else refusal_classes(t, a)
+        found = {**network_classes(t), **real_classes(t, a), **run_classes(t, a, m)} if m["starts"] else refusal_classes(t, a)
         for name in found:
             count[name] += found[name]
     return count

@@ -3,6 +3,8 @@
 
 use std::io::{Read, Write};
 
+// Request 2 of document 02: digits count from the first that isn't zero, on either side of the point, and zeros alone count none. The value is that of all
+// digits over the power of ten of all decimals.
 fn real(field: &[u8]) -> Option<f64> {
     let (minus, rest) = match field.first() {
         Some(b'-') => (true, &field[1..]),
@@ -16,12 +18,13 @@ fn real(field: &[u8]) -> Option<f64> {
     if !digits(whole) || decimals.is_some_and(|d| !digits(d)) {
         return None;
     }
-    let all: Vec<u8> = whole.iter().chain(decimals.unwrap_or(&[])).copied().collect();
-    if all.len() > 15 {
+    let decimals = decimals.unwrap_or(&[]);
+    let counted: Vec<u8> = whole.iter().chain(decimals).copied().skip_while(|&b| b == b'0').collect();
+    if counted.len() > 15 || decimals.len() > 22 {
         return None;
     }
-    let n = all.iter().fold(0u64, |n, &b| n * 10 + u64::from(b - b'0'));
-    let power: u64 = (0..decimals.map_or(0, <[u8]>::len)).fold(1, |p, _| p * 10);
+    let n = counted.iter().fold(0u64, |n, &b| n * 10 + u64::from(b - b'0'));
+    let power = 10u128.pow(decimals.len() as u32); // at most 10^22, the last that is an exact double
     let v = n as f64 / power as f64;
     Some(if minus { -v } else { v })
 }

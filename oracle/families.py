@@ -318,6 +318,73 @@ def no_bus(rng):
     return Case(rng.choice("FC"), [], rng.choice([[], [], [[0, 0]]]), [], [], [])
 
 
+# ---- padded numbers
+
+# The tables with reals, and the place of a row's first one.
+REALS = {"buses": 1, "slacks": 1, "gens": 1, "triplets": 2}
+
+# How an exporter pads: digits before the point at least, and decimals.
+WIDTHS = [(7, 10), (7, 10), (1, 14), (16, 0), (9, 4), (3, 22), (20, 22)]
+
+# Reals about the limits of document 02's request 2: how many digits count, how many of these are zeros at the end, how many decimals there are, and how
+# many digits stand before the point at least; None: as many as the longest text has room for.
+LIMITS = [(15, 0, 15, 7), (15, 6, 16, 1), (16, 0, 16, 1), (16, 6, 16, 7), (15, 0, 0, 30), (16, 0, 0, 30), (15, 0, 22, 1), (16, 0, 22, 1), (15, 0, 23, 30),
+          (1, 0, 22, 1), (1, 0, 23, 7), (0, 0, 22, 300), (0, 0, 23, 1), (15, 0, 16, None), (0, 0, 0, None)]
+
+# The networks that are padded.
+PADDED = [plain, heavy, islands, no_slack, slacks, limits, crossed, cascade, edge, exact, zeros, stored, diagonals, sparse, shuffled, wild, distant,
+          far_angle, late, lambda rng: sized(rng, 32)]
+
+
+def respelled(c, change):
+    """The case with every real changed."""
+    for table, first in REALS.items():
+        setattr(c, table, [[*row[:first], *map(change, row[first:])] for row in getattr(c, table)])
+    return c
+
+
+def spelled(n, decimals, ahead):
+    """The whole number n over the power of ten of its decimals, with at least so many digits before the point."""
+    digits = f"{n:0{ahead + decimals}d}"
+    return f"{digits[:-decimals]}.{digits[-decimals:]}" if decimals else digits
+
+
+def widened(field, ahead, decimals):
+    """A field with zeros in front of its number, and behind it as far as 15 digits count."""
+    if field == "?":
+        return field
+    minus = "-" if field[0] == "-" else ""
+    whole, _, rest = field[len(minus):].partition(".")
+    n = int(whole + rest)
+    more = max(0, min(decimals - len(rest), 15 - len(str(n)) if n else decimals))
+    return minus + spelled(n * 10 ** more, len(rest) + more, ahead)
+
+
+def filled(c, row, place, n, decimals, minus=""):
+    """The case with a number in one place, and as many zeros in front of it as make a text of 32,768 bytes."""
+    row[place] = minus + spelled(n, decimals, 1)
+    row[place] = minus + spelled(n, decimals, 1 + 32768 - len(c.text()))
+    return c
+
+
+def padded(rng, k):
+    """A network of any kind with all numbers padded. In every second one a real of the next of LIMITS stands among them."""
+    c = rng.choice(PADDED)(rng)
+    ahead, decimals = rng.choice(WIDTHS)
+    respelled(c, lambda x: widened(cell(x, c.digits), ahead, decimals))
+    if k % 2 == 0:
+        return c
+    counted, end, decimals, ahead = LIMITS[k // 2 % len(LIMITS)]
+    table = rng.choice([table for table in REALS if getattr(c, table)])
+    row = rng.choice(getattr(c, table))
+    place, minus = rng.randrange(REALS[table], len(row)), rng.choice(["", "-"])
+    n = rng.randrange(10 ** (counted - end - 1), 10 ** (counted - end)) * 10 ** end if counted else 0
+    if ahead is None:
+        return filled(c, row, place, n, decimals, minus)
+    row[place] = minus + spelled(n, decimals, ahead)
+    return c
+
+
 # ---- damaged texts
 
 def good(rng):
@@ -380,7 +447,7 @@ def form(rng):
 
 
 def field(rng):
-    """One wrong field."""
+    """One field that is wrong, or would be in another place."""
     c = good(rng)
     rows = rng.choice([r for r in (c.buses, c.slacks, c.gens, c.lines, c.triplets) if r])
     row = rng.choice(rows)

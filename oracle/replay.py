@@ -10,7 +10,7 @@ import sys
 
 import cases
 
-SEED, COUNT = 9, 1216
+SEED, COUNT = 9, 1280
 
 
 def main():

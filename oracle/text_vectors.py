@@ -1,9 +1,9 @@
 #!/usr/bin/env python3
-"""Makes the texts of crates/text_vectors and what document 01 says of each, worked out here and not by the proved code.
+"""Makes the texts of crates/text_vectors and what documents 01 and 02 say of each, worked out here and not by the proved code.
 
     python3 oracle/text_vectors.py      writes crates/text_vectors/stdin and stdout; the same each time
 
-The reader below follows 01's sentences on strings with regular expressions; a real's one division is that of exact.py.
+The reader below follows the papers' sentences on strings with regular expressions; a real's one division is that of exact.py.
 stdin: how many records, and the records. Numbers have two bytes, the higher first.
   a record: how many bytes its text has, how many the rest has, the text, and the rest:
     the refusal's number (0 of a good answer), its place, the flag of a good answer, and how many places each of the 19 columns has
@@ -14,6 +14,7 @@ stdin: how many records, and the records. Numbers have two bytes, the higher fir
 import random
 import re
 import struct
+from itertools import product
 
 from exact import NAN, bits, div, neg, to_bits, whole
 from families import SIZES, join, listing, trailed
@@ -22,6 +23,7 @@ from vectors import write
 FIELDS = {"B": "krrrrroo", "R": "br", "G": "brr", "L": "bb", "Y": "bbrr"}  # k a kind, r a real, o a real or ?, b a bus number
 COLUMNS = [(z, j) for z in SIZES for j in range(len(FIELDS[z]))]  # the 19 columns in the call's order
 ALPHABET = set(b"\n -.0123456789?BRGLYVQ")
+DIGITS = b"9876543210123456"  # 16 digits, the first of them not zero
 
 
 def value(kind, f):
@@ -32,11 +34,17 @@ def value(kind, f):
         return int(f) if re.fullmatch(rb"[0-9]{1,3}", f) and (f == b"0" or f[:1] != b"0") else None
     if kind == "o" and f == b"?":
         return to_bits(NAN)
-    m = re.fullmatch(rb"(-?)([0-9]+)(?:\.([0-9]+))?", f)
+    return real(f)
+
+
+def real(f):
+    """A real's bits by request 2 of 02, or None: 22 decimals at most, and 15 digits at most from the first that isn't zero on."""
+    m = re.fullmatch(rb"(-?)([0-9]+)(?:\.([0-9]{1,22}))?", f)
     minus, digits, decimals = m.groups(b"") if m else (b"", b"", b"")
-    if not 1 <= len(digits + decimals) <= 15:
+    counted = m and re.fullmatch(rb"0*([1-9][0-9]{0,14})?", digits + decimals)
+    if not counted:
         return None
-    x = div(whole(int(digits + decimals)), whole(10 ** len(decimals)))
+    x = div(whole(int(counted[1] or b"0")), whole(10 ** len(decimals)))
     return to_bits(neg(x) if minus else x)
 
 
@@ -47,7 +55,7 @@ def trailer(t):
 
 
 def read(text, narrow=False):
-    """01's answer: ("refused", number, place) or ("good", flag, columns). narrow: each column has one place."""
+    """The papers' answer: ("refused", number, place) or ("good", flag, columns). narrow: each column has one place."""
     if len(text) < 38:
         return ("refused", 1, len(text))
     if len(text) > 32768:
@@ -116,10 +124,52 @@ def only(z, body):
     return join("F", [body if z == other else b"" for other in SIZES])
 
 
+def full(field, more=0, after=b"0"):
+    """A text of 32,768 bytes, or of some more, in which zeros stand in front of a field; behind it stands another field."""
+    line = lambda zeros: [b"B Q " + b"0" * zeros + field + b" " + after + b" 0 0 0 ? ?"]
+    return text(line(32768 + more - len(text(line(0)))))
+
+
 LISTING = listing().text()
 LOAD = b"B Q 1 0 0 0 0 ? ?"
 BUS = b"B V 1.02 0.5 -0.25 1 0 ? -0.1"
 CASE = text([BUS, b"B Q 1 0 0 0 0 1.0 0"], [b"R 0 0"], [b"G 1 -1 1.5"], [b"L 0 1"], [b"Y 0 0 2 -8", b"Y 0 1 -2 8"], "C")
+
+
+def zeros(add, rng):
+    """Reals about the limits of request 2."""
+    # zeros before the first digit that counts, in front of the point and behind it, with counted digits and decimals about their limits
+    for sign, ahead, ones, behind, rest in product((b"", b"-"), (0, 1, 7, 30), (0, 1, 15), (0, 1, 7, 20), (0, 1, 2, 3, 14, 15, 16)):
+        f = sign + b"0" * ahead + DIGITS[:ones] + (b"." + b"0" * behind + DIGITS[:rest] if behind + rest else b"")
+        add(text(r=[b"R 0 " + f]))
+    # at the limits and past them; zeros alone; zeros at the end count
+    for f in (b"0000000.0250000000", b"-0.000", b"-00", b"00", b"007", b"-007.50", b"0.0", b"00000000000000000.0", b"-0000000.0000000000",
+              b"0." + b"0" * 22, b"0." + b"0" * 23, b"-0." + b"0" * 22, b"-0." + b"0" * 23, b"0" * 300, b"-" + b"0" * 300, b"0" * 300 + b"." + b"0" * 22, b"0" * 300 + b"." + b"0" * 23,
+              b"0" * 300 + b"1", b"0" * 300 + b"9" * 15, b"0" * 300 + b"9" * 16, b"0" * 300 + b"1" + b"0" * 14, b"0" * 300 + b"1" + b"0" * 15,
+              b"0." + b"0" * 7 + b"9" * 15, b"-0." + b"0" * 7 + b"9" * 15, b"0." + b"0" * 8 + b"9" * 15, b"0." + b"0" * 6 + b"9" * 16, b"0." + b"0" * 7 + b"9" * 16,
+              b"0." + b"0" * 21 + b"1", b"0." + b"0" * 22 + b"1", b"0." + b"0" * 7 + b"1" + b"0" * 14, b"0." + b"0" * 8 + b"1" + b"0" * 14,
+              b"100000000000000", b"1000000000000000", b"1.00000000000000", b"1.000000000000000", b"0.100000000000000", b"0.1000000000000000",
+              b"0010000000.0000000", b"0010000000.00000000", b"900719925474.0993", b"0.000009007199254740993", b"0.0000900719925474099"):
+        add(text([b"B Q 0 " + f + b" 0 0 0 ? ?"], flag="C"))
+        add(text(y=[b"Y 0 0 00 " + f]))
+    # wrong bytes among the zeros
+    for f in (b"000-0", b"0-", b"-", b"-.", b"--00", b"0.0.0", b"0..0", b"00000.", b"-00000.", b".000", b"-.000", b".", b"000?", b"?000", b"0000000000000000000?", b"0000000.000?00000",
+              b"0000000000000000000Q", b"B0000000000000000000", b"00000000.-0000000000", b"0000000000000000000-", b"0." + b"0" * 22 + b"?", b"0." + b"0" * 22 + b".", b"0" * 300 + b".",
+              b"0" * 300 + b"-"):
+        add(text(g=[b"G 0 00 " + f]))
+        add(text([b"B V 1 0 0 0 0 " + f + b" 00"]))
+    # bus numbers keep 01's rule
+    for f in (b"07", b"007", b"00", b"0.0", b"-0", b"0000000000000000"):
+        for line in (b"R %s 00", b"G %s 00 00.0", b"L %s 0", b"L 0 %s", b"Y %s 0 00 00", b"Y 0 %s 00 00"):
+            add(only(line[:1].decode(), line % f + b"\n"))
+    # one field as long as a text allows
+    for f, more, after in ((b"0", 0, b"0"), (b"1", 0, b"0"), (b"0", 1, b"0"), (b".0000000123456789012345", 0, b"0"), (DIGITS, 0, b"0"), (b"0", 0, b"1.")):
+        add(full(f, more, after))
+    # random reals of at most 15 digits that count and 1 to 22 decimals
+    for _ in range(60):
+        f = b"%0*d" % (rng.randrange(23, 40), rng.randrange(10 ** rng.randrange(1, 16)))
+        point = len(f) - rng.randrange(1, 23)
+        add(text(g=[b"G 1 -" + f[:point] + b"." + f[point:] + b" " + f]))
 
 
 def records():
@@ -225,6 +275,7 @@ def records():
         if rng.random() < 0.7:
             f += b"." + b"%0*d" % (rng.randrange(1, 8), rng.randrange(10))
         add(text(g=[b"G %d " % rng.randrange(1000) + f + b" 1"], flag=rng.choice("FC")))
+    zeros(add, rng)
     return out
 
 

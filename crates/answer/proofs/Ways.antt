@@ -16,11 +16,11 @@ use Rattle.case_text.proofs.Unique.{accepts, writes}
 use Rattle.tables.specs.declared.Outcome.{Outcome}
 use Rattle.tables.specs.Tables.{Outs, answer, paperOf, solveOf}
 use Rattle.answer.specs.declared.Answered.the-variants as Answered
-use Rattle.answer.specs.TextAnswer.{blank, paperIn, textAnswer, textAnswerOf}
+use Rattle.answer.specs.TextAnswer.{blank, paperIn, textAnswer, textAnswerBy, textAnswerOf}
 
 module _ (s : List ℕ) (r : Reading) (read : Network) (h : Reader.readResult (Reader.paperOf r) read ≡ Reader.readOf s blank) where
   pub answer-unread : Refused r → (o : Outs) (w : List Float) → textAnswer 0 (paperIn (Answered.Unread r)) o w ≡ textAnswerOf s o w
-  unfolding textAnswerOf
+  unfolding textAnswerBy
   answer-unread k o w = rw (← h, refused-paper r k .3)
 
   module _ (c : Contents) (e : r ≡ Reading.Good c) where
@@ -36,5 +36,5 @@ module _ (s : List ℕ) (r : Reading) (read : Network) (h : Reader.readResult (R
     pub answer-read : (o : Outs) (w : List Float) (found : Outcome) (o′ : Outs) (w′ : List Float)
         → answer (paperOf found) o′ w′ ≡ solveOf (c .start) (firstRows (c .rows) read) o w
         → textAnswer (c .rows .buses) (paperOf found) o′ w′ ≡ textAnswerOf s o w
-    unfolding textAnswerOf
+    unfolding textAnswerBy
     answer-read o w found o′ w′ q = rw (← h, e, ← q)

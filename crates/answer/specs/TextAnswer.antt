@@ -7,6 +7,7 @@ use lib.Ieee.{Float}
 use Rattle.real.specs.Paper.{Paper, given, refused}
 use Rattle.real.specs.Literals.{nought}
 use Rattle.network.specs.Network.{Network, busesOf, slacksOf, generatorsOf, branchesOf, tripletsOf, networkOf, firstRows}
+use Rattle.fields.specs.Real.{DigitRule, allowed}
 use Rattle.case_text.specs.declared.Contents.{Contents}
 use Rattle.case_text.specs.Answer as Reader
 use Rattle.tables.specs.Tables.{Outs, paperOf, solveOf}
@@ -38,8 +39,12 @@ afterReading (Reader.readResult (given c) read) o w =
     textAnswer (c .rows .buses) (a .paper) (a .columns) (a .space)
 afterReading (Reader.readResult (refused number values) read) o w = textAnswer 0 (refused number values) o w
 
-unfoldable pub textAnswerOf : List ℕ → Outs → List Float → TextAnswer
-textAnswerOf s o w = afterReading (Reader.readOf s blank) o w
+-- its reals read by a digit rule, and by 02's
+unfoldable pub textAnswerBy : DigitRule → List ℕ → Outs → List Float → TextAnswer
+textAnswerBy rule s o w = afterReading (Reader.readBy rule s blank) o w
+
+abbrev pub textAnswerOf : List ℕ → Outs → List Float → TextAnswer
+textAnswerOf = textAnswerBy allowed
 
 -- ---- the answer's enum on paper
 

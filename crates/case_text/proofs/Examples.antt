@@ -2,7 +2,7 @@
 -- `fields` has `-0` and `-0.25` as values (`minus-zero`, `minus-quarter`); here they are read from a text. Assumes nothing.
 use mathlib.Core.Path.{_≡_, refl, ap, _∙_}
 use mathlib.Core.Bool.{true}
-use mathlib.Core.List.{List, [], _∷_}
+use mathlib.Core.List.{List, [], _∷_, _++_}
 use Prim.Native.Nat.{ℕ}
 use lib.ListN.{set}
 use lib.Seq.{sets}
@@ -12,17 +12,19 @@ use Rattle.real.specs.declared.Value.the-variants.{Whole}
 use Rattle.real.specs.Paper.{given, refused}
 use Rattle.real.specs.Literals.{lit, nought, one}
 use Rattle.fields.specs.Cut.{upto, past, has, pieces}
-use Rattle.fields.specs.Digits.{digits, number}
-use Rattle.fields.specs.Real.{amountOf}
-use Rattle.rows.specs.Line.{allSome, fieldsOf}
-use Rattle.rows.specs.Rows.{sectionOf, ended}
+use Rattle.fields.specs.Digits.{digits, number, counted}
+use Rattle.fields.specs.Real.{allowed, amountBy}
+use Rattle.fields.specs.Before.{allowedBefore}
+use Rattle.fields.proofs.Examples.{padded}
+use Rattle.rows.specs.Line.{allSome, fieldsBy}
+use Rattle.rows.specs.Rows.{sectionBy, ended}
 use Rattle.rows.specs.declared.Section.the-variants as Section
 use Rattle.columns.specs.Columns.{columnOf, kindField, realField, numberField}
 use Rattle.case_text.specs.Alphabet.{knownOf}
 use Rattle.trailer.specs.Trailer.{risingOf, trailerOf, bytesOf}
-use Rattle.case_text.specs.Text.{partOf, bodyOf, textOf}
+use Rattle.case_text.specs.Text.{partBy, bodyBy, textBy, textOf}
 use Rattle.network.specs.Network.{Network, Slacks, busesOf, slacksOf, generatorsOf, branchesOf, tripletsOf, networkOf, rowCounts, roomOf, fitsOf}
-use Rattle.case_text.specs.Answer.{readResult, filledFrom, filledOf, readOf}
+use Rattle.case_text.specs.Answer.{readResult, filledFrom, tablesBy, filledOf, readBy, readOf}
 use Rattle.case_text.specs.declared.Contents.{Contents}
 use Rattle.starts.specs.declared.AcStart.the-variants.{Flat}
 use Rattle.case_text.specs.declared.Reading.the-variants as Reading
@@ -36,7 +38,7 @@ abbrev pub listing-contents : Contents
 listing-contents = record { start = Flat; rows = rowCounts 1 1 0 0 1 }
 
 pub listing-text : textOf listing ≡ Reading.Good listing-contents
-unfolding bytesOf partOf bodyOf trailerOf risingOf knownOf sectionOf fieldsOf allSome pieces upto past has digits number amountOf
+unfolding bytesOf partBy bodyBy trailerOf risingOf knownOf sectionBy fieldsBy allSome pieces upto past has digits number counted allowed amountBy
 listing-text = refl
 
 -- its sections' bytes, as its trailer cuts them
@@ -48,6 +50,26 @@ line-R = 82 ∷ 32 ∷ 48 ∷ 32 ∷ 48 ∷ 10 ∷ []
 
 abbrev line-Y : List ℕ
 line-Y = 89 ∷ 32 ∷ 48 ∷ 32 ∷ 48 ∷ 32 ∷ 50 ∷ 32 ∷ 45 ∷ 56 ∷ 10 ∷ []
+
+-- 02, Ask 2: the listing with the voltage `0000000.0250000000` is accepted; by 01's digit rule that field was refused 5
+abbrev padded-rest : List ℕ
+padded-rest = 32 ∷ 48 ∷ 32 ∷ 48 ∷ 32 ∷ 48 ∷ 32 ∷ 48 ∷ 32 ∷ 63 ∷ 32 ∷ 63 ∷ 10 ∷ []
+
+abbrev padded-starts : List ℕ
+padded-starts =
+    70 ∷ 32 ∷ 48 ∷ 48 ∷ 48 ∷ 48 ∷ 48 ∷ 32 ∷ 48 ∷ 48 ∷ 48 ∷ 51 ∷ 53 ∷ 32 ∷ 48 ∷ 48 ∷ 48 ∷ 52 ∷ 49 ∷ 32 ∷ 48
+    ∷ 48 ∷ 48 ∷ 52 ∷ 49 ∷ 32 ∷ 48 ∷ 48 ∷ 48 ∷ 52 ∷ 49 ∷ 32 ∷ 48 ∷ 48 ∷ 48 ∷ 53 ∷ 50 ∷ 10 ∷ []
+
+abbrev padded-text : List ℕ
+padded-text = (66 ∷ 32 ∷ 81 ∷ 32 ∷ []) ++ (padded ++ (padded-rest ++ (line-R ++ (line-Y ++ padded-starts))))
+
+pub padded-accepted : textOf padded-text ≡ Reading.Good listing-contents
+unfolding bytesOf partBy bodyBy trailerOf risingOf knownOf sectionBy fieldsBy allSome pieces upto past has digits number counted allowed amountBy
+padded-accepted = refl
+
+pub padded-before : textBy allowedBefore padded-text ≡ Reading.Field 4
+unfolding bytesOf partBy bodyBy trailerOf risingOf knownOf sectionBy fieldsBy allSome pieces upto past has digits number allowedBefore amountBy
+padded-before = refl
 
 bytes-B : bytesOf Section.B listing 35 ≡ line-B
 unfolding bytesOf digits number
@@ -91,22 +113,22 @@ listing-tables t =
 values-B : (columnOf (kindField 0) line-B ≡ 81 ∷ []) × (columnOf (realField 1) line-B ≡ one ∷ []) × (columnOf (realField 2) line-B ≡ nought ∷ [])
     × (columnOf (realField 3) line-B ≡ nought ∷ []) × (columnOf (realField 4) line-B ≡ nought ∷ []) × (columnOf (realField 5) line-B ≡ nought ∷ [])
     × (columnOf (realField 6) line-B ≡ nan ∷ []) × (columnOf (realField 7) line-B ≡ nan ∷ [])
-unfolding ended pieces upto past has digits number amountOf ofBits div neg ofInt
+unfolding ended pieces upto past has digits number counted allowed amountBy ofBits div neg ofInt
 values-B = (refl, refl, refl, refl, refl, refl, refl, refl)
 
 values-R : (columnOf (numberField 0) line-R ≡ 0 ∷ []) × (columnOf (realField 1) line-R ≡ nought ∷ [])
-unfolding ended pieces upto past has digits number amountOf ofBits div neg ofInt
+unfolding ended pieces upto past has digits number counted allowed amountBy ofBits div neg ofInt
 values-R = (refl, refl)
 
 values-Y : (columnOf (numberField 0) line-Y ≡ 0 ∷ []) × (columnOf (numberField 1) line-Y ≡ 0 ∷ []) × (columnOf (realField 2) line-Y ≡ two ∷ []) × (columnOf (realField 3) line-Y ≡ minus-eight ∷ [])
-unfolding ended pieces upto past has digits number amountOf ofBits div neg ofInt
+unfolding ended pieces upto past has digits number counted allowed amountBy ofBits div neg ofInt
 values-Y = (refl, refl, refl, refl)
 
 nothing : {A : Type 0} (f : List ℕ → A) → columnOf f [] ≡ []
 unfolding ended pieces upto past has
 nothing f = refl
 
-lines-written : (old : Network) → filledFrom line-B line-R [] [] line-Y old ≡ listing-tables old
+lines-written : (old : Network) → filledFrom allowed line-B line-R [] [] line-Y old ≡ listing-tables old
 lines-written old = λ i.
     let b = old .buses in
     let g = old .generators in
@@ -120,11 +142,11 @@ lines-written old = λ i.
     (tripletsOf (sets (y .row) 0 (values-Y .0 i)) (sets (y .col) 0 (values-Y .1 i)) (sets (y .re) 0 (values-Y .2 i)) (sets (y .im) 0 (values-Y .3 i)))
 
 listing-written : (old : Network) → filledOf listing 35 old ≡ listing-tables old
-unfolding filledOf
-listing-written old = (λ i. filledFrom (bytes-B i) (bytes-R i) (bytes-G i) (bytes-L i) (bytes-Y i) old) ∙ lines-written old
+unfolding tablesBy
+listing-written old = (λ i. filledFrom allowed (bytes-B i) (bytes-R i) (bytes-G i) (bytes-L i) (bytes-Y i) old) ∙ lines-written old
 
 pub listing-read : (old : Network) → fitsOf (listing-contents .rows) (roomOf old) ≡ true → readOf listing old ≡ readResult (given listing-contents) (listing-tables old)
-unfolding readOf
+unfolding readBy
 listing-read old h = rw (listing-text, h) (ap (readResult (given listing-contents)) (listing-written old))
 
 -- a bus line whose second field is `1.`
@@ -133,7 +155,7 @@ point-text =
     66 ∷ 32 ∷ 81 ∷ 32 ∷ 49 ∷ 46 ∷ 32 ∷ 48 ∷ 32 ∷ 48 ∷ 32 ∷ 48 ∷ 32 ∷ 48 ∷ 32 ∷ 63 ∷ 32 ∷ 63 ∷ 10 ∷ 70 ∷ 32 ∷ 48 ∷ 48 ∷ 48 ∷ 48 ∷ 48 ∷ 32 ∷ 48 ∷ 48 ∷ 48 ∷ 49 ∷ 57 ∷ 32 ∷ 48 ∷ 48 ∷ 48 ∷ 49 ∷ 57 ∷ 32 ∷ 48 ∷ 48 ∷ 48 ∷ 49 ∷ 57 ∷ 32 ∷ 48 ∷ 48 ∷ 48 ∷ 49 ∷ 57 ∷ 32 ∷ 48 ∷ 48 ∷ 48 ∷ 49 ∷ 57 ∷ 10 ∷ []
 
 pub point-refused : (old : Network) → readOf point-text old ≡ readResult (refused 5 (Whole 4 ∷ [])) old
-unfolding readOf filledOf bytesOf partOf bodyOf trailerOf risingOf knownOf sectionOf ended fieldsOf allSome pieces upto past has digits number amountOf ofBits div neg ofInt
+unfolding readBy tablesBy bytesOf partBy bodyBy trailerOf risingOf knownOf sectionBy ended fieldsBy allSome pieces upto past has digits number counted allowed amountBy ofBits div neg ofInt
 point-refused old = refl
 
 -- two slack rows with the angles `-0` and `-0.25`
@@ -148,5 +170,5 @@ no-rows r = networkOf (busesOf [] [] [] [] [] [] [] []) r (generatorsOf [] [] []
 pub minus-read : (i j : ℕ) (u v : Float)
     → readOf minus-text (no-rows (slacksOf (i ∷ j ∷ []) (u ∷ v ∷ [])))
     ≡ readResult (given (record { start = Flat; rows = rowCounts 0 2 0 0 0 })) (no-rows (slacksOf (0 ∷ 1 ∷ []) (lit 0x8000_0000_0000_0000 ∷ lit 0xbfd0_0000_0000_0000 ∷ [])))
-unfolding both readOf filledOf bytesOf partOf bodyOf trailerOf risingOf knownOf sectionOf ended fieldsOf allSome pieces upto past has digits number amountOf ofBits div neg ofInt
+unfolding both readBy tablesBy bytesOf partBy bodyBy trailerOf risingOf knownOf sectionBy ended fieldsBy allSome pieces upto past has digits number counted allowed amountBy ofBits div neg ofInt
 minus-read i j u v = refl

@@ -10,7 +10,7 @@ use Rattle.real.specs.Paper.{Paper, given, refused, placeIn, onGiven}
 use Rattle.network.specs.Network.{Network, roomOf, fitsOf}
 use Rattle.trailer.specs.Trailer.{trailerStart}
 use Rattle.case_text.specs.Text.{textOf}
-use Rattle.case_text.specs.Answer.{paperOf, judgedOf, filledOf, ReadResult, readResult, readResultOf, readOf}
+use Rattle.case_text.specs.Answer.{paperOf, judgedOf, filledOf, ReadResult, readResult, readResultOf, readBy, readOf}
 use Rattle.case_text.specs.Answer.Laws.{with-room}
 use Rattle.case_text.specs.declared.Contents.{Contents}
 use Rattle.case_text.specs.declared.Reading.{Reading}
@@ -65,7 +65,7 @@ left-alone (refused number values) new old h = refl
 module _ (s : List ℕ) (old new : Network) (r : Reading) (h : readResult (paperOf r) new ≡ readOf s old) where
   -- the answer is the definition's
   pub answer-is : r ≡ judgedOf s (roomOf old)
-  unfolding readOf
+  unfolding readBy
   answer-is = paper-tells r (judgedOf s (roomOf old)) (ap answer h)
 
   -- accepted if and only if the definition accepts the text and its rows fit
@@ -74,11 +74,11 @@ module _ (s : List ℕ) (old new : Network) (r : Reading) (h : readResult (paper
 
   -- and then the places written are the definition's values
   pub writes : (c : Contents) → r ≡ Reading.Good c → new ≡ filledOf s (trailerStart s) old
-  unfolding readOf
+  unfolding readBy
   writes c e = ap left h ∙ ap (λ (v : Reading). left (readResultOf s v old)) (sym answer-is ∙ e)
 
   -- a refusal leaves every column untouched
   pub refusal-writes-nothing : ((c : Contents) → r ≡ Reading.Good c → ⊥) → new ≡ old
-  unfolding readOf
+  unfolding readBy
   refusal-writes-nothing k =
       ap left h ∙ ap (λ (v : Reading). left (readResultOf s v old)) (sym answer-is) ∙ left-alone (paperOf r) _ old (λ c e. k c (paper-tells r (Reading.Good c) e))

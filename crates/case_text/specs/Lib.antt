@@ -3,3 +3,4 @@ pub mod Text
 pub mod Answer
 pub mod Printed
 pub mod Named
+pub mod Before

@@ -1,4 +1,4 @@
--- A whole case text: "1, 2, then 3 over the whole body; then line by line 6, 4, 5".
+-- A whole case text: "1, 2, then 3 over the whole body; then line by line 6, 4, 5". Its reals are read by a digit rule.
 pub mod Laws
 use Prim.Native.Nat.{ℕ}
 use mathlib.Core.Bool.{cond}
@@ -7,7 +7,8 @@ use lib.Dec.{ltb}
 use lib.ListN.{length, getD}
 use lib.Seq.{slice}
 use Rattle.network.specs.Network.{rowCounts}
-use Rattle.rows.specs.Rows.{checkOf}
+use Rattle.fields.specs.Real.{DigitRule, allowed}
+use Rattle.rows.specs.Rows.{checkBy}
 use Rattle.rows.specs.declared.Section.{Section}
 use Rattle.rows.specs.declared.Section.the-variants as Section
 use Rattle.rows.specs.declared.Check.{Check}
@@ -16,10 +17,6 @@ use Rattle.case_text.specs.Alphabet.{knownOf}
 use Rattle.trailer.specs.Trailer.{trailerLength, trailerStart, modeOf, trailerOf, sectionStart, bytesOf}
 use Rattle.case_text.specs.declared.Reading.{Reading}
 use Rattle.case_text.specs.declared.Reading.the-variants as Reading
-
--- a section, whose lines' and fields' places are places of the text
-unfoldable pub partOf : Section → List ℕ → ℕ → Check
-partOf z s t = checkOf z (sectionStart z s t) (bytesOf z s t)
 
 -- a section's refusal is the text's; a good one hands its rows on
 abbrev pub thenSection : Check → (ℕ → Reading) → Reading
@@ -32,37 +29,54 @@ thenSection (Check.Field at) k = Reading.Field at
 abbrev pub sectionRefusal : Check → Reading
 sectionRefusal v = thenSection v (λ n. Reading.Room)
 
--- "Sections B, R, G, L, Y stand in that order"
+-- the rows of five good sections
 abbrev pub afterY : List ℕ → ℕ → ℕ → ℕ → ℕ → ℕ → ℕ → Reading
 afterY s t nb nr ng nl ny =
     Reading.Good (record { start = modeOf (getD s t 0); rows = rowCounts nb nr ng nl ny })
 
-abbrev pub afterL : List ℕ → ℕ → ℕ → ℕ → ℕ → ℕ → Reading
-afterL s t nb nr ng nl = thenSection (partOf Section.Y s t) (afterY s t nb nr ng nl)
+module _ (rule : DigitRule) where
+  -- a section, whose lines' and fields' places are places of the text
+  unfoldable pub partBy : Section → List ℕ → ℕ → Check
+  partBy z s t = checkBy rule z (sectionStart z s t) (bytesOf z s t)
 
-abbrev pub afterG : List ℕ → ℕ → ℕ → ℕ → ℕ → Reading
-afterG s t nb nr ng = thenSection (partOf Section.L s t) (afterL s t nb nr ng)
+  -- "Sections B, R, G, L, Y stand in that order"
+  abbrev pub afterL : List ℕ → ℕ → ℕ → ℕ → ℕ → ℕ → Reading
+  afterL s t nb nr ng nl = thenSection (partBy Section.Y s t) (afterY s t nb nr ng nl)
 
-abbrev pub afterR : List ℕ → ℕ → ℕ → ℕ → Reading
-afterR s t nb nr = thenSection (partOf Section.G s t) (afterG s t nb nr)
+  abbrev pub afterG : List ℕ → ℕ → ℕ → ℕ → ℕ → Reading
+  afterG s t nb nr ng = thenSection (partBy Section.L s t) (afterL s t nb nr ng)
 
-abbrev pub afterB : List ℕ → ℕ → ℕ → Reading
-afterB s t nb = thenSection (partOf Section.R s t) (afterR s t nb)
+  abbrev pub afterR : List ℕ → ℕ → ℕ → ℕ → Reading
+  afterR s t nb nr = thenSection (partBy Section.G s t) (afterG s t nb nr)
 
-unfoldable pub bodyOf : List ℕ → ℕ → Reading
-bodyOf s t = thenSection (partOf Section.B s t) (afterB s t)
+  abbrev pub afterB : List ℕ → ℕ → ℕ → Reading
+  afterB s t nb = thenSection (partBy Section.R s t) (afterR s t nb)
 
--- refusal 3 at the first byte before t that is not of the alphabet
-abbrev pub afterTrailer : List ℕ → ℕ → Reading
-afterTrailer s t = cond (ltb (knownOf (slice 0 t s)) t) (Reading.Byte (knownOf (slice 0 t s))) (bodyOf s t)
+  unfoldable pub bodyBy : List ℕ → ℕ → Reading
+  bodyBy s t = thenSection (partBy Section.B s t) (afterB s t)
 
--- refusal 2 at the trailer's start
-abbrev pub afterLength : List ℕ → ℕ → Reading
-afterLength s t = cond (trailerOf s t) (afterTrailer s t) (Reading.Trailer t)
+  -- refusal 3 at the first byte before t that is not of the alphabet
+  abbrev pub afterTrailer : List ℕ → ℕ → Reading
+  afterTrailer s t = cond (ltb (knownOf (slice 0 t s)) t) (Reading.Byte (knownOf (slice 0 t s))) (bodyBy s t)
 
--- refusal 1: "text under 38 bytes (place: its length) or over 32,768 (place: 32,768)"
+  -- refusal 2 at the trailer's start
+  abbrev pub afterLength : List ℕ → ℕ → Reading
+  afterLength s t = cond (trailerOf s t) (afterTrailer s t) (Reading.Trailer t)
+
+  -- refusal 1: "text under 38 bytes (place: its length) or over 32,768 (place: 32,768)"
+  abbrev pub textBy : List ℕ → Reading
+  textBy s =
+      cond (ltb (length s) trailerLength) (Reading.Length (length s))
+      (cond (ltb 32768 (length s)) (Reading.Length 32768)
+      (afterLength s (trailerStart s)))
+
+-- ---- by 02's digit rule
+
+abbrev pub partOf : Section → List ℕ → ℕ → Check
+partOf = partBy allowed
+
+abbrev pub bodyOf : List ℕ → ℕ → Reading
+bodyOf = bodyBy allowed
+
 abbrev pub textOf : List ℕ → Reading
-textOf s =
-    cond (ltb (length s) trailerLength) (Reading.Length (length s))
-    (cond (ltb 32768 (length s)) (Reading.Length 32768)
-    (afterLength s (trailerStart s)))
+textOf = textBy allowed

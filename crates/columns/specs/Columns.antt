@@ -7,7 +7,7 @@ use lib.Seq.{sets}
 use lib.Ieee.{Float}
 use Rattle.fields.specs.Cut.{pieces}
 use Rattle.fields.specs.Digits.{busOf, numberIn}
-use Rattle.fields.specs.Real.{orNanOf, realIn}
+use Rattle.fields.specs.Real.{DigitRule, allowed, orNanBy, realIn}
 use Rattle.rows.specs.Rows.{rowsOf}
 use Rattle.network.specs.Network.{Buses, Slacks, Generators, Branches, Triplets, busesOf, slacksOf, generatorsOf, branchesOf, tripletsOf}
 
@@ -18,9 +18,10 @@ rowCount l = length (rowsOf l)
 abbrev pub cellOf : ℕ → List ℕ → List ℕ
 cellOf j l = getD (pieces 32 l) (j + 1) []
 
--- the three kinds of column: reals (`?` is no other real, so it is read the same way wherever it is allowed), bus numbers, and a kind as its letter's byte
-abbrev pub realField : ℕ → List ℕ → Float
-realField j r = realIn (orNanOf (cellOf j r))
+-- the three kinds of column: reals by a digit rule (`?` is no other real, so it is read the same way wherever it is allowed), bus numbers, and a kind
+-- as its letter's byte
+abbrev pub realFieldBy : DigitRule → ℕ → List ℕ → Float
+realFieldBy rule j r = realIn (orNanBy rule (cellOf j r))
 
 abbrev pub numberField : ℕ → List ℕ → ℕ
 numberField j r = numberIn (busOf (cellOf j r))
@@ -38,20 +39,38 @@ filled f l old = sets old 0 (columnOf f l)
 
 -- ---- each table, of its section's bytes: column j holds field j
 
-abbrev pub filledBuses : List ℕ → Buses → Buses
-filledBuses l t =
-    busesOf (filled (kindField 0) l (t .kind)) (filled (realField 1) l (t .vm-set)) (filled (realField 2) l (t .pd)) (filled (realField 3) l (t .qd))
-    (filled (realField 4) l (t .pg)) (filled (realField 5) l (t .qg)) (filled (realField 6) l (t .vm-case)) (filled (realField 7) l (t .va-case))
+module _ (rule : DigitRule) where
+  abbrev pub busesBy : List ℕ → Buses → Buses
+  busesBy l t =
+      let real : ℕ → List Float → List Float = λ j old. filled (realFieldBy rule j) l old in
+      busesOf (filled (kindField 0) l (t .kind)) (real 1 (t .vm-set)) (real 2 (t .pd)) (real 3 (t .qd)) (real 4 (t .pg)) (real 5 (t .qg)) (real 6 (t .vm-case)) (real 7 (t .va-case))
 
-abbrev pub filledSlacks : List ℕ → Slacks → Slacks
-filledSlacks l t = slacksOf (filled (numberField 0) l (t .bus)) (filled (realField 1) l (t .angle))
+  abbrev pub slacksBy : List ℕ → Slacks → Slacks
+  slacksBy l t = slacksOf (filled (numberField 0) l (t .bus)) (filled (realFieldBy rule 1) l (t .angle))
 
-abbrev pub filledGenerators : List ℕ → Generators → Generators
-filledGenerators l t = generatorsOf (filled (numberField 0) l (t .bus)) (filled (realField 1) l (t .qmin)) (filled (realField 2) l (t .qmax))
+  abbrev pub generatorsBy : List ℕ → Generators → Generators
+  generatorsBy l t = generatorsOf (filled (numberField 0) l (t .bus)) (filled (realFieldBy rule 1) l (t .qmin)) (filled (realFieldBy rule 2) l (t .qmax))
+
+  abbrev pub tripletsBy : List ℕ → Triplets → Triplets
+  tripletsBy l t =
+      tripletsOf (filled (numberField 0) l (t .row)) (filled (numberField 1) l (t .col)) (filled (realFieldBy rule 2) l (t .re)) (filled (realFieldBy rule 3) l (t .im))
 
 abbrev pub filledBranches : List ℕ → Branches → Branches
 filledBranches l t = branchesOf (filled (numberField 0) l (t .from)) (filled (numberField 1) l (t .to))
 
+-- ---- by 02's digit rule
+
+abbrev pub realField : ℕ → List ℕ → Float
+realField = realFieldBy allowed
+
+abbrev pub filledBuses : List ℕ → Buses → Buses
+filledBuses = busesBy allowed
+
+abbrev pub filledSlacks : List ℕ → Slacks → Slacks
+filledSlacks = slacksBy allowed
+
+abbrev pub filledGenerators : List ℕ → Generators → Generators
+filledGenerators = generatorsBy allowed
+
 abbrev pub filledTriplets : List ℕ → Triplets → Triplets
-filledTriplets l t =
-    tripletsOf (filled (numberField 0) l (t .row)) (filled (numberField 1) l (t .col)) (filled (realField 2) l (t .re)) (filled (realField 3) l (t .im))
+filledTriplets = tripletsBy allowed

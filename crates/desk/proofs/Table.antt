@@ -14,8 +14,8 @@ use Rattle.layout.proofs.Examples.{angle-columns-of-svqq, magnitude-columns-of-
 use Rattle.fields.proofs.Examples.{minus-zero, minus-quarter, point-last}
 use Rattle.case_text.proofs.Examples.{point-text, point-refused}
 use Rattle.lines.specs.Lines.{decimalBy, printedValues, refusedLine}
-use Rattle.answer.specs.TextAnswer.{blank, afterReading, textAnswerOf}
-use Rattle.report.specs.Report.{Report, blanks, reported, reportOf}
+use Rattle.answer.specs.TextAnswer.{blank, afterReading, textAnswerBy}
+use Rattle.report.specs.Report.{Report, blanks, reported, reportBy, reportOf}
 use Rattle.report.proofs.Examples.{listing-reported}
 use Rattle.desk.specs.Examples.{Value, bytes, numbers, reals, field, solve, Hold, table}
 
@@ -24,7 +24,7 @@ abbrev real : Float → Value
 real x = reals (x ∷ [])
 
 point-printed : (w : List Float) → reportOf point-text w .bytes ≡ 114 ∷ 101 ∷ 102 ∷ 117 ∷ 115 ∷ 101 ∷ 100 ∷ 32 ∷ 53 ∷ 32 ∷ 52 ∷ 10 ∷ []
-unfolding reportOf textAnswerOf refusedLine printedValues decimalBy
+unfolding reportBy textAnswerBy refusedLine printedValues decimalBy
 point-printed w = ap (λ r. reported (afterReading r blanks w) .bytes) (point-refused blank)
 
 pub examples-hold : (w : List Float) → leb 6144 (length w) ≡ true → Hold (table w)

@@ -1,7 +1,7 @@
 -- The table of powers of ten in src/, and its rule: entry k is the double of 10^k, shown once over the whole table. Assumes nothing.
 use mathlib.Core.Path.{_≡_, refl, ap, _∙_}
 use mathlib.Core.List.{List, [], _∷_}
-use Prim.Native.Nat.{ℕ, zero, suc, _+_, _^_, _<_}
+use Prim.Native.Nat.{ℕ, zero, suc, _+_, _^_, _≤_, _<_}
 use native.Mathlib.Omega.{arith}
 use native.Mathlib.Nat.{not-suc-le-zero, le-of-suc-le-suc, add-zero, add-suc, suc-add}
 use lib.Ieee.{Float, binary64, ofInt, ofBits, nan}
@@ -37,15 +37,22 @@ powers =
     ∷ ofBits binary64 4801453603149578240
     ∷ ofBits binary64 4816244402031689728
     ∷ ofBits binary64 4831355200913801216
+    ∷ ofBits binary64 4846369599423283200
+    ∷ ofBits binary64 4861130398305394688
+    ∷ ofBits binary64 4876203697187506176
+    ∷ ofBits binary64 4891288408196988160
+    ∷ ofBits binary64 4906019910204099648
+    ∷ ofBits binary64 4921056587992461136
+    ∷ ofBits binary64 4936209963552724370
     ∷ []
 
 abbrev power : ℕ → Float
 power k = double (10 ^ k)
 
--- sixteen computations
+-- a computation for each
 all-powers : Agrees power 0 powers
 unfolding ofBits ofInt
-all-powers = (refl, (refl, (refl, (refl, (refl, (refl, (refl, (refl, (refl, (refl, (refl, (refl, (refl, (refl, (refl, (refl, tt))))))))))))))))
+all-powers = (refl, (refl, (refl, (refl, (refl, (refl, (refl, (refl, (refl, (refl, (refl, (refl, (refl, (refl, (refl, (refl, (refl, (refl, (refl, (refl, (refl, (refl, (refl, tt)))))))))))))))))))))))
 
-pub power-rule : (k : ℕ) → k < 16 → getD powers k nan ≡ double (10 ^ k)
-power-rule k h = from-table power powers 0 all-powers k h ∙ ap power (omega arith)
+pub power-rule : (k : ℕ) → k ≤ 22 → getD powers k nan ≡ double (10 ^ k)
+power-rule k h = from-table power powers 0 all-powers k (omega arith) ∙ ap power (omega arith)

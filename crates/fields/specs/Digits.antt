@@ -1,6 +1,6 @@
--- Digits as a whole number, for every length; and 01's bus number.
+-- Digits as a whole number, for every length; which of them count; and 01's bus number.
 pub mod Laws
-use Prim.Native.Nat.{ℕ, _+_, _-_, _*_}
+use Prim.Native.Nat.{ℕ, _+_, _-_, _*_, _^_, _≤_}
 use mathlib.Core.Bool.{Bool, true, false, cond, _&&_, _||_, not}
 use mathlib.Core.List.{List, [], _∷_}
 use lib.Dec.{eqb, leb}
@@ -21,6 +21,19 @@ digits (b ∷ r) = digit b && digits r
 unfoldable pub number : ℕ → List ℕ → ℕ
 number m [] = m
 number m (b ∷ r) = number (m * 10 + (b - 48)) r
+
+-- 02, Ask 2: "Count digits from the first one that isn't zero, trailing zeros included; all-zero numbers count none."
+unfoldable pub counted : List ℕ → List ℕ
+counted [] = []
+counted (b ∷ r) = cond (eqb b 48) (counted r) (b ∷ r)
+
+-- how many count after those that gave m: zeros in front count nothing where m is 0
+abbrev pub countAfter : ℕ → List ℕ → ℕ
+countAfter m l = cond (eqb m 0) (length (counted l)) (length l)
+
+-- after those that gave m there is room for these: with them the number stays below 10^15
+abbrev pub Room : ℕ → List ℕ → Type 0
+Room m l = (m + 1) * 10 ^ countAfter m l ≤ 10 ^ 15
 
 -- digits alone, as a number, after those that gave m
 abbrev pub digitsOf : ℕ → List ℕ → Digits

@@ -1,3 +1,5 @@
 pub mod Cut
 pub mod Digits
 pub mod Real
+pub mod Decimal
+pub mod Before

@@ -1,13 +1,14 @@
 // The fields of a case text: a bus number, a real, and `?` for NaN. Each function reads the field that stands from a up to e.
 ghost use mathlib.Core.Path.{_≡_};
-ghost use Prim.Native.Nat.{_+_, _-_, _*_, _^_, _<_, _≤_};
+ghost use Prim.Native.Nat.{_-_, _^_, _<_, _≤_};
+ghost use mathlib.Core.List.{_++_};
 ghost use lib.ListN.{length};
 ghost use lib.Ieee.{binary64, div};
 ghost use lib.Seq.{slice};
 ghost use Rattle.real.specs.Literals.{double};
 ghost use Rattle.fields.specs.Cut.{Found, only};
-ghost use Rattle.fields.specs.Digits.{digitsOf, busOf, isNumber, numberIn};
-ghost use Rattle.fields.specs.Real.{allowed, amountOf, unsignedOf, negatedOf, realOf, orNanOf, isReal, realIn};
+ghost use Rattle.fields.specs.Digits.{digitsOf, counted, Room, busOf, isNumber, numberIn};
+ghost use Rattle.fields.specs.Real.{fewOf, amountOf, unsignedOf, negatedOf, realOf, orNanOf, isReal, realIn};
 
 // A field read as a real.
 pub enum Real {
@@ -50,10 +51,10 @@ pub fn is_byte(s: &[u8], a: usize, e: usize, x: u8) -> bool
     false
 }
 
-// The digits as a whole number, after those that gave `from`. There are few enough that it stays below 10^15.
+// The digits as a whole number, after those that gave `from`. So few of them count that it stays below 10^15, however many zeros stand in front.
 pub fn whole(s: &[u8], a: usize, e: usize, from: usize) -> Digits
     requires { ⌜ (a ≤ e) × (e ≤ length (now s)) ⌝ }
-    requires { ⌜ (from + 1) * 10 ^ (e - a) ≤ 10 ^ 15 ⌝ }
+    requires { ⌜ Room from (slice a e (now s)) ⌝ }
     ensures { λ r. ⌜ r ≡ digitsOf from (slice a e (now (s .entry))) ⌝ }
 {
     let mut m = from;
@@ -91,7 +92,7 @@ pub fn read_bus(s: &[u8], a: usize, e: usize) -> Digits
     whole(s, a, e, 0)
 }
 
-const TEN: [f64; 16] = [
+const TEN: [f64; 23] = [
     1.0,
     10.0,
     100.0,
@@ -108,11 +109,18 @@ const TEN: [f64; 16] = [
     10000000000000.0,
     100000000000000.0,
     1000000000000000.0,
+    10000000000000000.0,
+    100000000000000000.0,
+    1000000000000000000.0,
+    10000000000000000000.0,
+    100000000000000000000.0,
+    1000000000000000000000.0,
+    10000000000000000000000.0,
 ];
 
 // The power of ten of k decimals. The only place that knows of the table.
 fn ten(k: usize) -> f64
-    requires { ⌜ k < 16 ⌝ }
+    requires { ⌜ k ≤ 22 ⌝ }
     ensures { λ r. ⌜ r ≡ double (10 ^ k) ⌝ }
 {
     TEN[k]
@@ -120,19 +128,45 @@ fn ten(k: usize) -> f64
 
 // m divided once by the power of ten of k decimals.
 fn scaled(m: usize, k: usize) -> f64
-    requires { ⌜ (m < 10 ^ 15) × (k < 16) ⌝ }
+    requires { ⌜ (m < 10 ^ 15) × (k ≤ 22) ⌝ }
     ensures { λ r. ⌜ r ≡ div binary64 (double m) (double (10 ^ k)) ⌝ }
 {
     (m as f64) / ten(k)
 }
 
-// Whether the digits from a up to b, with as decimals those from c up to e, are few enough. The only place that counts them.
-fn few(s: &[u8], a: usize, b: usize, c: usize, e: usize) -> bool
+// Where the digits that count begin: the place of the first byte from a up to e that is not zero, or e.
+fn past_zeros(s: &[u8], a: usize, e: usize) -> usize
+    requires { ⌜ (a ≤ e) × (e ≤ length (now s)) ⌝ }
+    ensures { λ r. ⌜ r ≡ e - length (counted (slice a e (now (s .entry)))) ⌝ }
+{
+    let mut i = a;
+    while i < e {
+        if s[i] != b'0' {
+            return i;
+        }
+        i += 1;
+    }
+    i
+}
+
+// How many of the digits from a up to b, with as decimals those from c up to e, count.
+fn count(s: &[u8], a: usize, b: usize, c: usize, e: usize) -> usize
     requires { ⌜ (a ≤ b) × (b ≤ length (now s)) ⌝ }
     requires { ⌜ (c ≤ e) × (e ≤ length (now s)) ⌝ }
-    ensures { λ r. ⌜ r ≡ allowed (slice a b (now (s .entry))) (slice c e (now (s .entry))) ⌝ }
+    ensures { λ r. ⌜ r ≡ length (counted (slice a b (now (s .entry)) ++ slice c e (now (s .entry)))) ⌝ }
 {
-    (b - a) + (e - c) <= 15
+    let p = past_zeros(s, a, b);
+    if p < b {
+        return (b - p) + (e - c);
+    }
+    e - past_zeros(s, c, e)
+}
+
+// Whether n digits that count and k decimals are few enough.
+fn few(n: usize, k: usize) -> bool
+    ensures { λ r. ⌜ r ≡ fewOf n k ⌝ }
+{
+    (n <= 15) & (k <= 22)
 }
 
 // The digits from a up to b, and as decimals those from c up to e.
@@ -144,7 +178,9 @@ fn amount(s: &[u8], a: usize, b: usize, c: usize, e: usize) -> Real
     if a == b {
         return Real::Wrong;
     }
-    if !few(s, a, b, c, e) {
+    let n = count(s, a, b, c, e);
+    let k = e - c;
+    if !few(n, k) {
         return Real::Wrong;
     }
     let Digits::Number(w) = whole(s, a, b, 0) else {
@@ -153,7 +189,7 @@ fn amount(s: &[u8], a: usize, b: usize, c: usize, e: usize) -> Real
     let Digits::Number(m) = whole(s, c, e, w) else {
         return Real::Wrong;
     };
-    Real::Value(scaled(m, e - c))
+    Real::Value(scaled(m, k))
 }
 
 // A real with no minus.

@@ -5,5 +5,6 @@ pub mod Counting
 pub mod Each
 pub mod Paper
 pub mod Literals
+pub mod Nearest
 pub mod Real
 pub mod Norm

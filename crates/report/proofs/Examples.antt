@@ -13,8 +13,8 @@ use Rattle.case_text.proofs.Examples.{listing, listing-contents, listing-tables
 use Rattle.tables.specs.Tables.{ok, lengthsIn, roomy, zeros}
 use Rattle.tables.proofs.Examples as Solved
 use Rattle.lines.specs.Lines.{decimalBy, printedReal, okLine, busLine, busLines}
-use Rattle.answer.specs.TextAnswer.{blank, afterReading, textAnswerOf}
-use Rattle.report.specs.Report.{blanks, printedOf, reported, reportOf}
+use Rattle.answer.specs.TextAnswer.{blank, afterReading, textAnswerBy}
+use Rattle.report.specs.Report.{blanks, printedOf, reported, reportBy, reportOf}
 
 -- `ok 0 0000000000000000`
 abbrev pub first-line : List ℕ
@@ -45,7 +45,7 @@ rows-fit = refl
 
 -- whatever stood in the workspace
 pub listing-reported : (w : List Float) → leb 6144 (length w) ≡ true → reportOf listing w ≡ record { bytes = first-line ++ second-line; space = zeros w }
-unfolding reportOf textAnswerOf
+unfolding reportBy textAnswerBy
 listing-reported w h =
     ap (λ r. reported (afterReading r blanks w)) (listing-read blank rows-fit)
     ∙ rw (same-network, Solved.listing-solved blanks w (room w h)) (rw same-lines refl)

@@ -7,9 +7,10 @@ use lib.ListN.{replicate}
 use lib.Ieee.{Float}
 use Rattle.real.specs.Paper.{Paper, given, refused}
 use Rattle.real.specs.Literals.{nought}
+use Rattle.fields.specs.Real.{DigitRule, allowed}
 use Rattle.case_text.specs.declared.Contents.{Contents}
 use Rattle.tables.specs.Tables.{Outs, outs}
-use Rattle.answer.specs.TextAnswer.{TextAnswer, textAnswerOf}
+use Rattle.answer.specs.TextAnswer.{TextAnswer, textAnswerBy}
 use Rattle.lines.specs.Lines.{okLine, busLines, refusedLine, Wrote}
 
 -- the buffer that a report is written into
@@ -38,8 +39,12 @@ refusalOf (refused number values) = refusedLine number values
 abbrev pub reported : TextAnswer → Report
 reported a = record { bytes = printedOf (a .buses) (a .paper) (a .columns); space = a .space }
 
-unfoldable pub reportOf : List ℕ → List Float → Report
-reportOf s w = reported (textAnswerOf s blanks w)
+-- its reals read by a digit rule, and by 02's
+unfoldable pub reportBy : DigitRule → List ℕ → List Float → Report
+reportBy rule s w = reported (textAnswerBy rule s blanks w)
+
+abbrev pub reportOf : List ℕ → List Float → Report
+reportOf = reportBy allowed
 
 -- the report stands at the buffer's beginning, and the workspace is as the definition leaves it
 pub record Reported (r : Report) (before : List ℕ) (end : ℕ) (after : List ℕ) (space : List Float) : Type 0 where

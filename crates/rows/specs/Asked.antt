@@ -5,7 +5,7 @@ use mathlib.Core.List.{List}
 use lib.Dec.{eqb, leb}
 use Rattle.fields.specs.Cut.{only}
 use Rattle.fields.specs.Digits.{busOf, isNumber}
-use Rattle.fields.specs.Real.{realOf, orNanOf, isReal}
+use Rattle.fields.specs.Real.{DigitRule, allowed, realBy, orNanBy, isReal}
 use Rattle.rows.specs.declared.Section.{Section}
 use Rattle.rows.specs.declared.Section.the-variants as Section
 use Rattle.rows.specs.declared.Want.{Want}
@@ -44,9 +44,12 @@ wantOf Section.G j = cond (eqb j 0) Want.Bus Want.Plain
 wantOf Section.L j = Want.Bus
 wantOf Section.Y j = cond (leb 2 j) Want.Plain Want.Bus
 
--- whether a field is what is asked; "kind V (PV) or Q"
+-- whether a field is what is asked, its reals by a digit rule; "kind V (PV) or Q"
+abbrev pub goodBy : DigitRule → Want → List ℕ → Bool
+goodBy rule Want.Plain f = isReal (realBy rule f)
+goodBy rule Want.Stored f = isReal (orNanBy rule f)
+goodBy rule Want.Bus f = isNumber (busOf f)
+goodBy rule Want.Kind f = only 86 f || only 81 f
+
 abbrev pub goodOf : Want → List ℕ → Bool
-goodOf Want.Plain f = isReal (realOf f)
-goodOf Want.Stored f = isReal (orNanOf f)
-goodOf Want.Bus f = isNumber (busOf f)
-goodOf Want.Kind f = only 86 f || only 81 f
+goodOf = goodBy allowed

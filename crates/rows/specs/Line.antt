@@ -1,4 +1,4 @@
--- A line, which starts at the place `at`: its form, and then its fields left to right.
+-- A line, which starts at the place `at`: its form, and then its fields left to right, by a digit rule.
 pub mod Laws
 use Prim.Native.Nat.{ℕ, _+_}
 use mathlib.Core.Bool.{Bool, true, false, cond, _&&_, not}
@@ -6,7 +6,8 @@ use mathlib.Core.List.{List, [], _∷_}
 use lib.Dec.{eqb}
 use lib.ListN.{length}
 use Rattle.fields.specs.Cut.{empty, only, pieces}
-use Rattle.rows.specs.Asked.{sectionLetter, fieldCount, wantOf, goodOf}
+use Rattle.fields.specs.Real.{DigitRule, allowed}
+use Rattle.rows.specs.Asked.{sectionLetter, fieldCount, wantOf, goodBy}
 use Rattle.rows.specs.declared.Section.{Section}
 use Rattle.rows.specs.declared.Check.{Check}
 use Rattle.rows.specs.declared.Check.the-variants as Check
@@ -25,16 +26,23 @@ abbrev pub formOf : Section → List (List ℕ) → Bool
 formOf z [] = false
 formOf z (f ∷ fs) = only (sectionLetter z) f && spacedOf 0 (fieldCount z) fs
 
--- the fields from field j on, which start at `at`: refusal 5 at the first wrong one
-unfoldable pub fieldsOf : Section → ℕ → ℕ → List (List ℕ) → Check
-fieldsOf z j at [] = Check.Good 1
-fieldsOf z j at (f ∷ fs) = cond (goodOf (wantOf z j) f) (fieldsOf z (j + 1) (at + length f + 1) fs) (Check.Field at)
-
 -- the fields of a line cut at its spaces: all pieces but the letter
 abbrev pub tail : List (List ℕ) → List (List ℕ)
 tail [] = []
 tail (f ∷ fs) = fs
 
--- refusal 4 at the line's start, then 5
+module _ (rule : DigitRule) where
+  -- the fields from field j on, which start at `at`: refusal 5 at the first wrong one
+  unfoldable pub fieldsBy : Section → ℕ → ℕ → List (List ℕ) → Check
+  fieldsBy z j at [] = Check.Good 1
+  fieldsBy z j at (f ∷ fs) = cond (goodBy rule (wantOf z j) f) (fieldsBy z (j + 1) (at + length f + 1) fs) (Check.Field at)
+
+  -- refusal 4 at the line's start, then 5
+  abbrev pub lineBy : Section → ℕ → List ℕ → Check
+  lineBy z at l = cond (formOf z (pieces 32 l)) (fieldsBy z 0 (at + 2) (tail (pieces 32 l))) (Check.Form at)
+
+abbrev pub fieldsOf : Section → ℕ → ℕ → List (List ℕ) → Check
+fieldsOf = fieldsBy allowed
+
 abbrev pub lineOf : Section → ℕ → List ℕ → Check
-lineOf z at l = cond (formOf z (pieces 32 l)) (fieldsOf z 0 (at + 2) (tail (pieces 32 l))) (Check.Form at)
+lineOf = lineBy allowed

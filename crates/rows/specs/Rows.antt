@@ -6,8 +6,9 @@ use mathlib.Core.List.{List, [], _∷_}
 use lib.Dec.{leb}
 use lib.ListN.{length}
 use Rattle.fields.specs.Cut.{empty, pieces}
+use Rattle.fields.specs.Real.{DigitRule, allowed}
 use Rattle.rows.specs.Asked.{sizeOf}
-use Rattle.rows.specs.Line.{lineOf}
+use Rattle.rows.specs.Line.{lineBy}
 use Rattle.rows.specs.declared.Section.{Section}
 use Rattle.rows.specs.declared.Check.{Check}
 use Rattle.rows.specs.declared.Check.the-variants as Check
@@ -19,18 +20,25 @@ after (Check.Rows at) v = Check.Rows at
 after (Check.Form at) v = Check.Form at
 after (Check.Field at) v = Check.Field at
 
--- the pieces from `at` on, after r rows: "line by line 6, 4, 5"; "a section that doesn't end in LF is refusal 4 at its last line"
-unfoldable pub sectionOf : Section → ℕ → ℕ → List (List ℕ) → Check
-sectionOf z r at [] = Check.Good r
-sectionOf z r at (l ∷ ls) =
-    cond (empty l && empty ls) (Check.Good r)
-    (cond (leb (sizeOf z) r) (Check.Rows at)
-    (cond (empty ls) (Check.Form at)
-    (after (lineOf z at l) (sectionOf z (r + 1) (at + length l + 1) ls))))
+module _ (rule : DigitRule) where
+  -- the pieces from `at` on, after r rows: "line by line 6, 4, 5"; "a section that doesn't end in LF is refusal 4 at its last line"
+  unfoldable pub sectionBy : Section → ℕ → ℕ → List (List ℕ) → Check
+  sectionBy z r at [] = Check.Good r
+  sectionBy z r at (l ∷ ls) =
+      cond (empty l && empty ls) (Check.Good r)
+      (cond (leb (sizeOf z) r) (Check.Rows at)
+      (cond (empty ls) (Check.Form at)
+      (after (lineBy rule z at l) (sectionBy z (r + 1) (at + length l + 1) ls))))
 
--- the check of a section's bytes, which start at `at`
+  -- the check of a section's bytes, which start at `at`
+  abbrev pub checkBy : Section → ℕ → List ℕ → Check
+  checkBy z at l = sectionBy z 0 at (pieces 10 l)
+
+abbrev pub sectionOf : Section → ℕ → ℕ → List (List ℕ) → Check
+sectionOf = sectionBy allowed
+
 abbrev pub checkOf : Section → ℕ → List ℕ → Check
-checkOf z at l = sectionOf z 0 at (pieces 10 l)
+checkOf = checkBy allowed
 
 -- all pieces but the last
 unfoldable pub ended : List (List ℕ) → List (List ℕ)

@@ -1,8 +1,10 @@
--- Refusals 7 and 9 are not met by a text, a row that names a missing bus is a line of it, and withheld figures don't show in its answer. Assumes nothing.
+-- Refusals 7 and 9 are not met by a text, a row that names a missing bus is a line of it, withheld figures don't show in its answer, and
+-- a text that 01's digit rule accepted is answered as it was. Assumes nothing.
 use Prim.Native.Nat.{ℕ, _≤_}
 use mathlib.Core.Path.{_≡_, refl, ap, _∙_}
 use mathlib.Core.List.{List}
 use mathlib.Core.Bool.{true}
+use mathlib.Core.Logic.{_⊎_, inl, inr, ⊎-elim}
 use lib.ListN.{length}
 use lib.Ieee.{Float}
 use Rattle.real.specs.Paper.{Paper, given, refused, onGiven}
@@ -14,22 +16,25 @@ use Rattle.network.specs.Checks.Laws.{first-counted, first-buses}
 use Rattle.network.specs.Missing.{missingIn}
 use Rattle.network.specs.declared.Naming.{Naming}
 use Rattle.network.specs.declared.MissingBus.the-variants as MissingBus
+use Rattle.fields.specs.Before.{allowedBefore}
 use Rattle.trailer.specs.Trailer.{trailerStart}
 use Rattle.case_text.specs.declared.Contents.{Contents}
 use Rattle.case_text.specs.declared.Reading.{Reading}
 use Rattle.case_text.specs.declared.Reading.the-variants as Reading
-use Rattle.case_text.specs.Text.{textOf}
+use Rattle.case_text.specs.Text.{textBy, textOf}
 use Rattle.case_text.specs.Text.Laws.{Accepted, Where, accepted-has, text-sound, never-room}
 use Rattle.case_text.specs.Named.{LowestLine}
 use Rattle.case_text.specs.Named.Laws.{lines-of, told-line}
+use Rattle.case_text.specs.Before.{MovedText}
+use Rattle.case_text.specs.Before.Laws.{read-kept, read-before}
 use Rattle.case_text.specs.Answer as Reader
-use Rattle.case_text.specs.Answer.{withRoom, judgedOf, filledOf, readResultOf, readOf}
+use Rattle.case_text.specs.Answer.{withRoom, judgedOf, filledOf, readResultOf, readBy}
 use Rattle.case_text.specs.Answer.Laws.{rows-most, filled-room}
 use Rattle.starts.specs.declared.AcStart.{AcStart}
 use Rattle.pf_ac.specs.WithStart.Withheld.{Alike}
 use Rattle.tables.specs.Tables.{Outs, lengthsIn, paperOf, roomy, rowRefusal, busRefusal, checkedOf, Answer, afterCheck, solveOf}
 use Rattle.tables.specs.Tables.Withheld.{solve-withheld}
-use Rattle.answer.specs.TextAnswer.{blank, TextAnswer, textAnswer, unread, afterReading, textAnswerOf}
+use Rattle.answer.specs.TextAnswer.{blank, TextAnswer, textAnswer, unread, afterReading, textAnswerBy, textAnswerOf}
 
 -- ---- refusals 7 and 9
 
@@ -72,7 +77,7 @@ rows-never-7-9 start r t o w few fits room =
 
 pub answer-never-7-9 : (s : List ℕ) (o : Outs) (w : List Float) → ((n : ℕ) → n ≤ 32 → roomy n (lengthsIn o) (length w) ≡ true)
     → (textAnswerOf s o w ≡ textGives s o w (textOf s)) × (textOf s ≡ Reading.Room → ⊥)
-unfolding textAnswerOf readOf
+unfolding textAnswerBy readBy
 answer-never-7-9 s o w room = (rw (reader-never-9 s) (go (textOf s) (Reader.paperOf (textOf s)) refl (text-sound s)), never-room s)
   where
     fits : (r : Rows) → AtMost r sizes → AtMost r (roomOf (filledOf s (trailerStart s) blank))
@@ -101,3 +106,16 @@ refused-line s o w room c h table i j e =
 pub answer-withheld : (c : Contents) (read read′ : Network) (o : Outs) (w : List Float) → Alike (c .start) (firstRows (c .rows) read) (firstRows (c .rows) read′)
     → afterReading (Reader.readResult (given c) read) o w ≡ afterReading (Reader.readResult (given c) read′) o w
 answer-withheld c read read′ o w a = ap (told (c .rows .buses)) (solve-withheld (c .start) _ _ a o w)
+
+-- ---- 02, Ask 2
+
+-- a text that 01's digit rule accepted is answered as it was: the answer, the columns and the workspace
+pub answer-kept : (s : List ℕ) (c : Contents) → textBy allowedBefore s ≡ Reading.Good c → (o : Outs) (w : List Float) → textAnswerOf s o w ≡ textAnswerBy allowedBefore s o w
+unfolding textAnswerBy
+answer-kept s c h o w = ap (λ r. afterReading r o w) (read-kept s c h blank)
+
+-- any text is, or 01 refused a field that is now taken
+pub answer-before : (s : List ℕ) (o : Outs) (w : List Float)
+    → (textAnswerOf s o w ≡ textAnswerBy allowedBefore s o w) ⊎ MovedText s (trailerStart s) (textBy allowedBefore s) (textOf s)
+unfolding textAnswerBy
+answer-before s o w = ⊎-elim (λ e. inl (ap (λ r. afterReading r o w) e)) (λ m. inr m) (read-before s blank)

@@ -1,7 +1,8 @@
 -- `case_text::body` meets its contract: the sections in turn, each refusal the text's. Assumes nothing.
 use mathlib.Core.Path.{_≡_, _∙_}
 use borrow.Author.Needs.{needs}
-use Rattle.case_text.specs.Text.{afterY, afterL, afterG, afterR, afterB, bodyOf}
+use Rattle.fields.specs.Real.{allowed}
+use Rattle.case_text.specs.Text.{afterY, afterL, afterG, afterR, afterB, bodyBy, bodyOf}
 use Rattle.case_text.specs.declared.Reading.{Reading}
 use Rattle.case_text.proofs.Refusals.{refusal, on-good}
 use Rattle.case_text.proofs.body.Statement.{statement}
@@ -27,19 +28,19 @@ l-of c = c .before .before .before .before
 abbrev Left : tie.Start → Reading → Type 0
 Left x v = bodyOf (x .args .s .now) (x .args .t) ≡ v
 
-after-b : (c : tie.After-vb) → let x = entry c in Left x (afterB (x .args .s .now) (x .args .t) (c .vb .given .0 .0))
-unfolding bodyOf
+after-b : (c : tie.After-vb) → let x = entry c in Left x (afterB allowed (x .args .s .now) (x .args .t) (c .vb .given .0 .0))
+unfolding bodyBy
 after-b c = on-good _ (c .before .before .check-part .ensures) (c .vb .given .1)
 
-after-r : (c : tie.After-vr) → let b = b-of c in let x = entry b in Left x (afterR (x .args .s .now) (x .args .t) (b .vb .given .0 .0) (c .vr .given .0 .0))
+after-r : (c : tie.After-vr) → let b = b-of c in let x = entry b in Left x (afterR allowed (x .args .s .now) (x .args .t) (b .vb .given .0 .0) (c .vr .given .0 .0))
 after-r c = after-b (b-of c) ∙ on-good _ (c .before .before .check-part2 .ensures) (c .vr .given .1)
 
 after-g : (c : tie.After-vg)
-    → let r = r-of c in let b = b-of r in let x = entry b in Left x (afterG (x .args .s .now) (x .args .t) (b .vb .given .0 .0) (r .vr .given .0 .0) (c .vg .given .0 .0))
+    → let r = r-of c in let b = b-of r in let x = entry b in Left x (afterG allowed (x .args .s .now) (x .args .t) (b .vb .given .0 .0) (r .vr .given .0 .0) (c .vg .given .0 .0))
 after-g c = after-r (r-of c) ∙ on-good _ (c .before .before .check-part3 .ensures) (c .vg .given .1)
 
 after-l : (c : tie.After-vl)
-    → let g = g-of c in let r = r-of g in let b = b-of r in let x = entry b in Left x (afterL (x .args .s .now) (x .args .t) (b .vb .given .0 .0) (r .vr .given .0 .0) (g .vg .given .0 .0) (c .vl .given .0 .0))
+    → let g = g-of c in let r = r-of g in let b = b-of r in let x = entry b in Left x (afterL allowed (x .args .s .now) (x .args .t) (b .vb .given .0 .0) (r .vr .given .0 .0) (g .vg .given .0 .0) (c .vl .given .0 .0))
 after-l c = after-g (g-of c) ∙ on-good _ (c .before .before .check-part4 .ensures) (c .vl .given .1)
 
 after-y : (c : tie.After-vy)
@@ -49,7 +50,7 @@ after-y c = after-l (l-of c) ∙ on-good _ (c .before .before .check-part5 .ensu
 -- ---- the ways out
 
 returns : tie.Need-returns
-unfolding bodyOf
+unfolding bodyBy
 returns c =
     let p = c .before .before in
     rw (← p .check-part .ensures, refusal (p .check-part .result) _ (c .before .match .keys2)) (c .refused .ensures)

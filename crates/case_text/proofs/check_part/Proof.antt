@@ -3,7 +3,7 @@ use native.Mathlib.Omega.{arith}
 use borrow.Author.Needs.{needs}
 use Rattle.trailer.specs.Trailer.{bytesOf}
 use Rattle.trailer.specs.Trailer.Laws.{within}
-use Rattle.case_text.specs.Text.{partOf}
+use Rattle.case_text.specs.Text.{partBy}
 use Rattle.case_text.proofs.check_part.Statement.{statement}
 use Rattle.case_text.proofs.check_part.Tie as tie
 
@@ -15,7 +15,7 @@ check-section-requires c κs =
     omega (arith, w .ordered, w .inside)
 
 returns : tie.Need-returns
-unfolding partOf bytesOf
+unfolding partBy bytesOf
 returns c = rw (← c .before .before .start-of .ensures, ← c .before .end-of .ensures) (c .check-section .ensures)
 
 pub check-part-spec : {M : Type 1} → statement M

@@ -13,6 +13,7 @@ use Rattle.network.specs.declared.Rows.{Rows}
 use Rattle.network.specs.Network.{Network, RoomBuses, RoomSlacks, RoomGenerators, RoomBranches, RoomTriplets, AtMost, roomOf, fitsOf}
 use Rattle.network.specs.Network.Laws.{fits-at-most, room-buses, room-slacks, room-generators, room-branches, room-triplets}
 use Rattle.network.specs.Checks.{sizes}
+use Rattle.fields.specs.Real.{allowed}
 use Rattle.rows.specs.Asked.{sizeOf}
 use Rattle.rows.specs.Printed.Laws.{section-rows, section-most}
 use Rattle.rows.specs.declared.Section.{Section}
@@ -21,9 +22,9 @@ use Rattle.rows.specs.declared.Check.the-variants as Check
 use Rattle.columns.specs.Columns.{rowCount}
 use Rattle.trailer.specs.Trailer.{trailerStart, sectionStart, bytesOf, placesOf}
 use Rattle.trailer.specs.Trailer.Laws.{within}
-use Rattle.case_text.specs.Text.{partOf, textOf}
+use Rattle.case_text.specs.Text.{partBy, partOf, textOf}
 use Rattle.case_text.specs.Text.Laws.{Accepted, accepted-has}
-use Rattle.case_text.specs.Answer.{withRoom, judgedOf, filledFrom, filledOf, readResult, paperOf, readResultOf, readOf}
+use Rattle.case_text.specs.Answer.{withRoom, judgedOf, filledFrom, tablesBy, filledOf, readResult, paperOf, readResultOf, readBy, readOf}
 use Rattle.case_text.specs.declared.Contents.{Contents}
 use Rattle.trailer.specs.declared.Places.{Places}
 use Rattle.case_text.specs.declared.Reading.{Reading}
@@ -54,11 +55,11 @@ fitting s m c h = let e = with-room (textOf s) m c h in record { accepted = acce
 -- ---- the sections' places, and that each table's rows fit its columns
 
 pub part-rows : (z : Section) (s : List ℕ) (t n : ℕ) → partOf z s t ≡ Check.Good n → n ≡ rowCount (bytesOf z s t)
-unfolding partOf
+unfolding partBy
 part-rows z s t n h = section-rows z (sectionStart z s t) (bytesOf z s t) n h
 
 part-most : (z : Section) (s : List ℕ) (t n : ℕ) → partOf z s t ≡ Check.Good n → n ≤ sizeOf z
-unfolding partOf
+unfolding partBy
 part-most z s t n h = section-most z (sectionStart z s t) (bytesOf z s t) n h
 
 -- the rows of an accepted text are within the sizes
@@ -120,15 +121,15 @@ ends w = (omega (arith, w .rg, w .gl, w .ly, w .yt, w .end), omega (arith, w .ly
 -- as `filledOf`, of the places
 abbrev pub filledBy : List ℕ → Places → Network → Network
 filledBy s p old =
-    filledFrom (slice (p .b) (p .r) s) (slice (p .r) (p .g) s) (slice (p .g) (p .l) s) (slice (p .l) (p .y) s) (slice (p .y) (p .t) s) old
+    filledFrom allowed (slice (p .b) (p .r) s) (slice (p .r) (p .g) s) (slice (p .g) (p .l) s) (slice (p .l) (p .y) s) (slice (p .y) (p .t) s) old
 
 filled-at : (s : List ℕ) (t : ℕ) (old : Network) → filledOf s t old ≡ filledBy s (placesOf s t) old
-unfolding filledOf bytesOf
+unfolding tablesBy bytesOf
 filled-at s t old = refl
 
 -- reading keeps the length of every column
 pub filled-room : (s : List ℕ) (t : ℕ) (old : Network) → roomOf (filledOf s t old) ≡ roomOf old
-unfolding filledOf
+unfolding tablesBy
 filled-room s t old = simp length-sets
 
 -- ---- the answer
@@ -139,9 +140,9 @@ module _ (s : List ℕ) (old : Network) (m : Rows) (v : Reading) (r : m ≡ room
 
   pub read-good : (c : Contents) (p : Places) (new : Network) → v ≡ Reading.Good c → p ≡ placesOf s (trailerStart s) → new ≡ filledBy s p old
       → readResult (paperOf v) new ≡ readOf s old
-  unfolding readOf
+  unfolding readBy
   read-good c p new g q w = rw (judged, g, w, q, filled-at s (trailerStart s) old)
 
   pub read-refused : readResultOf s v old ≡ readResult (paperOf v) old → readResult (paperOf v) old ≡ readOf s old
-  unfolding readOf
+  unfolding readBy
   read-refused k = rw judged (sym k)

@@ -19,7 +19,7 @@ use Rattle.columns.specs.Columns.{numberField, columnOf}
 use Rattle.columns.specs.Columns.Laws.{rows-are-lines, number-of-line}
 use Rattle.trailer.specs.Trailer.{bytesOf}
 use Rattle.case_text.specs.Text.Laws.{Accepted}
-use Rattle.case_text.specs.Answer.{filledOf}
+use Rattle.case_text.specs.Answer.{tablesBy, filledOf}
 use Rattle.case_text.specs.Answer.Laws.{part-rows}
 use Rattle.case_text.specs.Named.{namingSection, busFields, textBuses, busNumber, LowestLine}
 use Rattle.case_text.specs.declared.Contents.{Contents}
@@ -37,7 +37,7 @@ module _ (s : List ℕ) (t : ℕ) where
 
   module _ (c : Contents) (a : Accepted s t c) (old : Network) (fits : AtMost (c .rows) (roomOf old)) where
     pub lines-of : LinesOf (firstRows (c .rows) (filledOf s t old))
-    unfolding filledOf
+    unfolding tablesBy
     lines-of =
         let b = a .body in
         let k = room-buses _ (old .buses) (fits .buses) in

@@ -13,21 +13,22 @@ use lib.Seq.{slice, drop-cons, drop-append-le, length-take-le}
 use borrow.Author.Tests.{eqb-true, eq-eqb}
 use Rattle.real.specs.Tests.{decided, true-false}
 use Rattle.fields.specs.Digits.{digits, digitsOf, isNumber}
+use Rattle.fields.specs.Real.{allowed}
 use Rattle.rows.specs.Rows.{rowsOf}
 use Rattle.rows.specs.Printed.{fieldTable}
-use Rattle.rows.specs.Printed.Laws.{section-printed, section-sound, Sound}
+use Rattle.rows.specs.Printed.Laws.{section-printed, section-sound, SoundBy}
 use Rattle.rows.specs.declared.Section.{Section}
 use Rattle.rows.specs.declared.Section.the-variants as Section
 use Rattle.rows.specs.declared.Check.the-variants as Check
 use Rattle.trailer.specs.Trailer.{groups, widthOf, trailerLength, trailerStart, groupAt, startAt, risingOf, indexOf, sectionStart, sectionEnd, bytesOf}
 use Rattle.trailer.specs.Trailer.Laws.{first-group, groups-after, GoodTrailer, good-trailer, rising, Within, within}
-use Rattle.case_text.specs.Text.{partOf, textOf}
+use Rattle.case_text.specs.Text.{partBy, partOf, textOf}
 use Rattle.case_text.specs.Text.Laws.{accepted-has}
 use Rattle.case_text.specs.Printed.{rowsPrinted, groupsPrinted, trailerPrinted, textPrinted}
 use Rattle.case_text.specs.declared.Contents.{Contents}
 use Rattle.case_text.specs.declared.Reading.the-variants as Reading
 
-slice-join : (s : List ℕ) (a b : ℕ) → a ≤ b → b ≤ length s → slice a b s ++ drop b s ≡ drop a s
+pub slice-join : (s : List ℕ) (a b : ℕ) → a ≤ b → b ≤ length s → slice a b s ++ drop b s ≡ drop a s
 slice-join s a b h k =
     sym (drop-append-le a (take b s) (drop b s) (rw (length-take-le b s k) h)) ∙ ap (drop a) (take-append-drop b s)
 
@@ -69,7 +70,7 @@ trailer-printed k s t h w =
 
 part-printed : (z : Section) (s : List ℕ) (t n : ℕ) (rest : List ℕ) → sectionStart z s t ≤ sectionEnd z s t → sectionEnd z s t ≤ length s → partOf z s t ≡ Check.Good n
     → drop (sectionEnd z s t) s ≡ rest → drop (sectionStart z s t) s ≡ rowsPrinted z s t ++ rest
-unfolding partOf bytesOf
+unfolding partBy bytesOf
 part-printed z s t n rest h k g q =
     sym (slice-join s (sectionStart z s t) (sectionEnd z s t) h k) ∙ ap (λ (x : List ℕ). slice (sectionStart z s t) (sectionEnd z s t) s ++ x) q
     ∙ ap (λ (x : List ℕ). x ++ rest) (section-printed z (sectionStart z s t) (slice (sectionStart z s t) (sectionEnd z s t) s) n g)
@@ -98,6 +99,6 @@ text-printed s c h =
 
 -- every field of every row is what is asked of it
 pub fields-sound : (s : List ℕ) (t n : ℕ) (z : Section) → partOf z s t ≡ Check.Good n → (k : ℕ) → k < length (rowsOf (bytesOf z s t))
-    → Sound z (getD (fieldTable (bytesOf z s t)) k [])
-unfolding partOf
-fields-sound s t n z h k i = section-sound z (sectionStart z s t) (bytesOf z s t) n h k i
+    → SoundBy allowed z (getD (fieldTable (bytesOf z s t)) k [])
+unfolding partBy
+fields-sound s t n z h k i = section-sound allowed z (sectionStart z s t) (bytesOf z s t) n h k i

@@ -13,7 +13,7 @@ use Rattle.fields.specs.Cut.{only, has, pieces, Found}
 use Rattle.fields.specs.Cut.Laws.{only-is}
 use Rattle.real.specs.Tests.{decided, true-false, below-or}
 use Rattle.fields.specs.Digits.{digits}
-use Rattle.fields.specs.Real.{amountOf, realOf, orNanOf, isReal}
+use Rattle.fields.specs.Real.{amountBy, realOf, orNanOf, isReal}
 use Rattle.rows.specs.Rows.{rowsOf}
 use Rattle.rows.specs.Rows.Laws.{rows-more, rows-room, rows-last, rows-end}
 use Rattle.columns.specs.Columns.{rowCount, numberField, columnOf, filled}
@@ -91,7 +91,7 @@ number-of-line j l i = rw (no-number j) at (List·getD-map (numberField j) (rows
 -- ---- `?` is no real
 
 mark-wrong : (l : List ℕ) → only 63 l ≡ true → isReal (realOf l) ≡ false
-unfolding has digits amountOf
+unfolding has digits amountBy
 mark-wrong l h = rw (only-is 63 l h)
 
 pub plain-value : (l : List ℕ) → isReal (realOf l) ≡ true → orNanOf l ≡ realOf l

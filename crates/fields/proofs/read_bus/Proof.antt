@@ -2,12 +2,11 @@
 use mathlib.Core.Path.{_≡_, _∙_}
 use Prim.Native.Nat.{_+_, _-_}
 use native.Mathlib.Omega.{arith}
-use native.Mathlib.Nat.{le-trans}
 use lib.Seq.{length-slice}
 use borrow.Author.Tests.{eq-eqb, ne-eqb, le-leb, lt-leb}
 use Rattle.fields.specs.Cut.Laws.{slice-step, slice-some, slice-none}
 use mathlib.Core.Bool.{and-false}
-use Rattle.fields.specs.Digits.Laws.{tens}
+use Rattle.fields.specs.Digits.Laws.{room-short}
 use borrow.Author.Needs.{needs}
 use Rattle.fields.proofs.read_bus.Statement.{statement}
 use Rattle.fields.proofs.read_bus.Tie as tie
@@ -28,10 +27,9 @@ returns-3 c =
     rw (slice-step (a .s .now) (a .a) (a .e) (omega arith) (omega arith), slice-some (a .s .now) (a .a + 1) (a .e) (omega arith) (omega arith), eq-eqb _ 48 (c .before .if3 .taken), and-false)
 
 whole-requires : tie.Need-whole-requires
-whole-requires c κs = (
-  search needs,
-  le-trans (omega arith) (tens (c .before .before .before .before .before .before .args .e - c .before .before .before .before .before .before .args .a) (omega arith)),
-)
+whole-requires c κs =
+    let a = c .before .before .before .before .before .before .args in
+    (search needs, room-short _ (rw (length-slice (a .a) (a .e) (a .s .now) (omega arith)) (omega arith)))
 
 returns-4 : tie.Need-returns-4
 returns-4 c =
@@ -41,10 +39,9 @@ returns-4 c =
     ∙ rw (slice-step (a .s .now) (a .a) (a .e) (omega arith) (omega arith), slice-none (a .s .now) (a .a + 1) (a .e) (omega arith), eq-eqb _ 48 (c .before .before .if3 .taken))
 
 whole-requires-2 : tie.Need-whole-requires-2
-whole-requires-2 c κs = (
-  search needs,
-  le-trans (omega arith) (tens (c .before .before .before .before .before .args .e - c .before .before .before .before .before .args .a) (omega arith)),
-)
+whole-requires-2 c κs =
+    let a = c .before .before .before .before .before .args in
+    (search needs, room-short _ (rw (length-slice (a .a) (a .e) (a .s .now) (omega arith)) (omega arith)))
 
 returns-5 : tie.Need-returns-5
 returns-5 c =

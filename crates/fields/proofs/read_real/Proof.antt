@@ -8,9 +8,7 @@ use Rattle.fields.proofs.read_real.Statement.{statement}
 use Rattle.fields.proofs.read_real.Tie as tie
 
 returns : tie.Need-returns
-returns c =
-    let a = c .before .before .args in
-    rw (slice-none (a .s .now) (a .a) (a .e) (c .if1 .taken))
+returns c = rw (slice-none (c .before .before .args .s .now) _ _ (c .if1 .taken))
 
 returns-2 : tie.Need-returns-2
 returns-2 c =

@@ -1,18 +1,19 @@
--- `fields::whole` meets its contract: the digits left, after the number so far, give what all of them give; the limit leaves room for each digit left. Assumes nothing.
+-- `fields::whole` meets its contract: the digits left, after the number so far, give what all of them give; there is room for each digit left. Assumes nothing.
 use mathlib.Core.Path.{_≡_, sym, refl, _∙_}
-use Prim.Native.Nat.{_+_, _-_, _*_, _^_, _≤_}
+use Prim.Native.Nat.{_-_, _≤_}
 use native.Mathlib.Omega.{arith}
 use lib.ListN.{getD}
 use lib.Seq.{slice}
 use borrow.Author.Needs.{needs}
-use Rattle.fields.specs.Digits.{digitsOf}
-use Rattle.fields.specs.Digits.Laws.{bound, bound-on, digits-low, digits-high, digits-on, digits-end}
+use Rattle.fields.specs.Cut.Laws.{slice-step}
+use Rattle.fields.specs.Digits.{digitsOf, Room}
+use Rattle.fields.specs.Digits.Laws.{room-number, room-on, digits-low, digits-high, digits-on, digits-end}
 use Rattle.fields.proofs.whole.Statement.{statement}
 use Rattle.fields.proofs.whole.Tie as tie
 
 abbrev Inv-loop : tie.InvT-loop
 Inv-loop s a e from m₀ i₀ m i =
-    (i ≤ e) × ((m + 1) * 10 ^ (e - i) ≤ 10 ^ 15) × (digitsOf m (slice i e s) ≡ digitsOf from (slice a e s))
+    (i ≤ e) × Room m (slice i e s) × (digitsOf m (slice i e s) ≡ digitsOf from (slice a e s))
 
 abbrev μ-loop : tie.MeasureT-loop
 μ-loop s a e from m₀ i₀ m i = e - i
@@ -35,10 +36,10 @@ returns-2 c =
     sym (digits-high (a .s .now) i (a .e) m (omega arith) (omega arith) (c .if2 .taken)) ∙ c .before .before .before .before .loop .inv .2
 
 mul-m : tie.Need-mul-m Inv-loop μ-loop
-mul-m c = omega (arith, bound _ _ (c .before .before .before .before .loop .inv .1))
+mul-m c = omega (arith, room-number _ _ (c .before .before .before .before .loop .inv .1))
 
 add-m : tie.Need-add-m Inv-loop μ-loop
-add-m c = omega (arith, bound _ _ (c .before .before .before .before .loop .inv .1))
+add-m c = omega (arith, room-number _ _ (c .before .before .before .before .loop .inv .1))
 
 loop-again : tie.Need-loop-again Inv-loop μ-loop
 loop-again c =
@@ -46,7 +47,7 @@ loop-again c =
     let i = c .before .before .before .before .loop .i in
     let m = c .before .before .before .before .loop .m in (
       omega arith,
-      bound-on m i (a .e) (getD (a .s .now) i 0) (omega arith) (omega arith) (c .before .before .before .before .loop .inv .1),
+      room-on m (getD (a .s .now) i 0) _ (omega arith) (rw (slice-step (a .s .now) i (a .e) (omega arith) (omega arith)) at (c .before .before .before .before .loop .inv .1)),
       sym (digits-on (a .s .now) i (a .e) m (omega arith) (omega arith) (c .before .if1 .left) (c .if2 .left)) ∙ c .before .before .before .before .loop .inv .2,
     )
 

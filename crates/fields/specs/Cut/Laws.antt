@@ -79,11 +79,17 @@ has-below x [] h = absurd (true-false h refl)
 has-below x (b ∷ r) h =
     ⊎-elim (λ p. rw p (omega arith)) (λ p. rw p (let g : length (upto x r) < length r = has-below x r (rw p at h) in omega arith)) (decided (eqb b x))
 
-has-not : (x : ℕ) (l : List ℕ) → has x l ≡ false → upto x l ≡ l
+pub has-not : (x : ℕ) (l : List ℕ) → has x l ≡ false → upto x l ≡ l
 unfolding upto has
 has-not x [] h = refl
 has-not x (b ∷ r) h =
     ⊎-elim (λ p. absurd (true-false refl (rw p at h))) (λ p. rw p (ap (λ (m : List ℕ). b ∷ m) (has-not x r (rw p at h)))) (decided (eqb b x))
+
+pub past-none : (x : ℕ) (l : List ℕ) → has x l ≡ false → past x l ≡ []
+unfolding past has
+past-none x [] h = refl
+past-none x (b ∷ r) h =
+    ⊎-elim (λ p. absurd (true-false refl (rw p at h))) (λ p. rw p (past-none x r (rw p at h))) (decided (eqb b x))
 
 upto-le : (x : ℕ) (l : List ℕ) → length (upto x l) ≤ length l
 upto-le x l = ⊎-elim (λ h. let g = has-below x l h in omega arith) (λ h. rw (has-not x l h) (omega arith)) (decided (has x l))

@@ -3,6 +3,7 @@ use Prim.Native.Nat.{ℕ, _≤_}
 use mathlib.Core.Path.{_≡_, refl, sym, ap, _∙_}
 use mathlib.Core.List.{List}
 use mathlib.Core.Bool.{true}
+use mathlib.Core.Logic.{_⊎_, inl, inr, ⊎-elim}
 use borrow.Author.Tests.{le-leb}
 use lib.Dec.{leb}
 use lib.ListN.{length}
@@ -10,16 +11,19 @@ use lib.Ieee.{Float}
 use Rattle.real.specs.Tests.{both}
 use Rattle.real.specs.Paper.{Paper, given, refused}
 use Rattle.network.specs.Network.{Network, firstRows}
+use Rattle.fields.specs.Before.{allowedBefore}
+use Rattle.trailer.specs.Trailer.{trailerStart}
 use Rattle.case_text.specs.declared.Contents.{Contents}
 use Rattle.case_text.specs.declared.Reading.the-variants as Reading
-use Rattle.case_text.specs.Text.{textOf}
+use Rattle.case_text.specs.Text.{textBy, textOf}
+use Rattle.case_text.specs.Before.{MovedText}
 use Rattle.case_text.specs.Answer as Reader
 use Rattle.pf_ac.specs.WithStart.Withheld.{Alike}
 use Rattle.tables.specs.Tables.{Outs, lengthsIn, roomy}
 use Rattle.answer.specs.TextAnswer.{textAnswer, unread, afterReading, textAnswerOf}
-use Rattle.answer.specs.TextAnswer.Laws.{textGives, answer-never-7-9, answer-withheld}
+use Rattle.answer.specs.TextAnswer.Laws.{textGives, answer-never-7-9, answer-withheld, answer-kept, answer-before}
 use Rattle.lines.specs.Lines.{Wrote}
-use Rattle.report.specs.Report.{blanks, Report, printedOf, refusalOf, reported, reportOf, Reported}
+use Rattle.report.specs.Report.{blanks, Report, printedOf, refusalOf, reported, reportBy, reportOf, Reported}
 
 -- a reader's refusal as it is printed
 pub unread-printed : (p : Paper Contents) (o : Outs) → printedOf 0 (unread p) o ≡ refusalOf p
@@ -29,7 +33,7 @@ unread-printed (refused number values) o = refl
 -- an answer, printed, is the report
 pub printed-reported : (s : List ℕ) (w : List Float) (n : ℕ) (r : Paper (ℕ × Float)) (o : Outs) (v : List Float) → textAnswer n r o v ≡ textAnswerOf s blanks w
     → {before after : List ℕ} {end : ℕ} → Wrote before 0 (printedOf n r o) end after → Reported (reportOf s w) before end after v
-unfolding reportOf
+unfolding reportBy
 printed-reported s w n r o v h p = record { written = rw (← h) p; left = ap (λ a. a .space) h }
 
 -- ---- refusals 7 and 9 are not met by a text
@@ -40,7 +44,7 @@ roomy-blanks w h n few = rw (le-leb n 32 few, h)
 
 pub report-never-7-9 : (s : List ℕ) (w : List Float) → leb 6144 (length w) ≡ true
     → (reportOf s w ≡ reported (textGives s blanks w (textOf s))) × (textOf s ≡ Reading.Room → ⊥)
-unfolding reportOf
+unfolding reportBy
 report-never-7-9 s w h = let a = answer-never-7-9 s blanks w (roomy-blanks w h) in (ap reported (a .0), a .1)
 
 -- ---- the contract fixes everything
@@ -58,3 +62,16 @@ report-one r before after₁ after₂ end₁ end₂ space₁ space₂ p q =
 pub printed-withheld : (c : Contents) (read read′ : Network) (w : List Float) → Alike (c .start) (firstRows (c .rows) read) (firstRows (c .rows) read′)
     → reported (afterReading (Reader.readResult (given c) read) blanks w) ≡ reported (afterReading (Reader.readResult (given c) read′) blanks w)
 printed-withheld c read read′ w a = ap reported (answer-withheld c read read′ blanks w a)
+
+-- ---- 02, Ask 2, of what is printed
+
+-- a text that 01's digit rule accepted prints the bytes that it printed
+pub report-kept : (s : List ℕ) (c : Contents) → textBy allowedBefore s ≡ Reading.Good c → (w : List Float) → reportOf s w ≡ reportBy allowedBefore s w
+unfolding reportBy
+report-kept s c h w = ap reported (answer-kept s c h blanks w)
+
+-- any text does, or 01 refused a field that is now taken
+pub report-before : (s : List ℕ) (w : List Float)
+    → (reportOf s w ≡ reportBy allowedBefore s w) ⊎ MovedText s (trailerStart s) (textBy allowedBefore s) (textOf s)
+unfolding reportBy
+report-before s w = ⊎-elim (λ e. inl (ap reported e)) (λ m. inr m) (answer-before s blanks w)

@@ -12,7 +12,7 @@ use Rattle.fields.specs.Cut.{empty, only, upto, pieces, Found}
 use Rattle.real.specs.Tests.{true-false, and-left, below-or}
 use Rattle.fields.specs.Cut.Laws.{only-is, found, slice-some, slice-none}
 use Rattle.rows.specs.Asked.{sectionLetter, wantOf, goodOf}
-use Rattle.rows.specs.Line.{allSome, spacedOf, formOf, fieldsOf, tail}
+use Rattle.rows.specs.Line.{allSome, spacedOf, formOf, fieldsBy, fieldsOf, tail}
 use Rattle.rows.specs.declared.Section.{Section}
 use Rattle.rows.specs.declared.Section.the-variants as Section
 use Rattle.rows.specs.declared.Want.{Want}
@@ -78,16 +78,16 @@ good-is z j f w p b q = rw (← p) (sym q)
 
 module _ (s : List ℕ) (z : Section) (i e q j : ℕ) (h : e ≤ length s) (f : Found s i e 32 q) where
   pub field-wrong : goodOf (wantOf z j) (slice i q s) ≡ false → fieldsOf z j i (pieces 32 (slice i e s)) ≡ Check.Field i
-  unfolding fieldsOf
+  unfolding fieldsBy
   field-wrong g = ⊎-elim (λ w. rw (f .more w, g)) (λ w. rw (f .last w, g)) (below-or q e)
 
   module _ (g : goodOf (wantOf z j) (slice i q s) ≡ true) where
     pub field-last : e ≤ q → fieldsOf z j i (pieces 32 (slice i e s)) ≡ Check.Good 1
-    unfolding fieldsOf
+    unfolding fieldsBy
     field-last w = rw (f .last w, g)
 
     pub field-on : q < e → fieldsOf z j i (pieces 32 (slice i e s)) ≡ fieldsOf z (j + 1) (q + 1) (pieces 32 (slice (q + 1) e s))
-    unfolding fieldsOf
+    unfolding fieldsBy
     field-on w =
         let r : q ≤ length s = omega (arith, f .high) in
         let v : i + length (slice i q s) + 1 ≡ q + 1 = omega (arith, length-slice i q s r, f .low) in

@@ -12,10 +12,11 @@ use lib.ListN.{length, getD}
 use borrow.Author.Tests.{eqb-true, leb-false}
 use Rattle.fields.specs.Cut.{empty, only, pieces, onto}
 use Rattle.fields.specs.Cut.Laws.{empty-is, only-is}
+use Rattle.fields.specs.Real.{DigitRule, allowed}
 use Rattle.real.specs.Tests.{decided, true-false, no-case, and-left, and-right}
-use Rattle.rows.specs.Asked.{sectionLetter, fieldCount, sizeOf, wantOf, goodOf}
-use Rattle.rows.specs.Line.{allSome, formOf, fieldsOf, lineOf, tail}
-use Rattle.rows.specs.Rows.{after, sectionOf, checkOf, ended, rowsOf}
+use Rattle.rows.specs.Asked.{sectionLetter, fieldCount, sizeOf, wantOf, goodBy}
+use Rattle.rows.specs.Line.{allSome, formOf, fieldsBy, lineBy, lineOf, tail}
+use Rattle.rows.specs.Rows.{after, sectionBy, sectionOf, checkBy, checkOf, ended, rowsOf}
 use Rattle.rows.specs.Rows.Laws.{pieces-some}
 use Rattle.rows.specs.Printed.{spread, fieldsIn, fieldTable, printed}
 use Rattle.rows.specs.declared.Section.{Section}
@@ -24,7 +25,7 @@ use Rattle.rows.specs.declared.Check.the-variants as Check
 
 -- ---- the pieces between the x's, and the x's, are the list
 
-abbrev join : ℕ → List (List ℕ) → List ℕ
+abbrev pub join : ℕ → List (List ℕ) → List ℕ
 join x [] = []
 join x (p ∷ ps) = p ++ spread x ps
 
@@ -38,7 +39,7 @@ unfolding spread
 open-join x [] h = absurd (true-false refl h)
 open-join x (p ∷ ps) h = refl
 
-join-pieces : (x : ℕ) (l : List ℕ) → join x (pieces x l) ≡ l
+pub join-pieces : (x : ℕ) (l : List ℕ) → join x (pieces x l) ≡ l
 unfolding pieces spread
 join-pieces x [] = refl
 join-pieces x (b ∷ r) =
@@ -71,19 +72,29 @@ after-rest (Check.Rows k) w n h = never (Check.Rows k) n h refl
 after-rest (Check.Form k) w n h = never (Check.Form k) n h refl
 after-rest (Check.Field k) w n h = never (Check.Field k) n h refl
 
-line-form : (z : Section) (at : ℕ) (l : List ℕ) (w : Check) (n : ℕ) → after (lineOf z at l) w ≡ Check.Good n → formOf z (pieces 32 l) ≡ true
-line-form z at l w n h =
+after-first : (v w : Check) (n : ℕ) → after v w ≡ Check.Good n → (m : ℕ) × (v ≡ Check.Good m)
+after-first (Check.Good k) w n h = (k, refl)
+after-first (Check.Rows k) w n h = never (Check.Rows k) n h refl
+after-first (Check.Form k) w n h = never (Check.Form k) n h refl
+after-first (Check.Field k) w n h = never (Check.Field k) n h refl
+
+line-form : (rule : DigitRule) (z : Section) (at : ℕ) (l : List ℕ) (w : Check) (n : ℕ) → after (lineBy rule z at l) w ≡ Check.Good n → formOf z (pieces 32 l) ≡ true
+line-form rule z at l w n h =
     ⊎-elim (λ p. p) (λ p. never (Check.Form at) n (rw p at h) refl) (decided (formOf z (pieces 32 l)))
 
 neither : {A : Type 0} (b : Bool) (at n : ℕ) → cond b (Check.Rows at) (Check.Form at) ≡ Check.Good n → A
 neither true at n h = never (Check.Rows at) n h refl
 neither false at n h = never (Check.Form at) n h refl
 
+counted : (z : Section) (ps : List (List ℕ)) → formOf z ps ≡ true → length (tail ps) ≡ fieldCount z
+counted z [] h = absurd (true-false h refl)
+counted z (f ∷ fs) h = rw (zero-add (length fs)) at (eqb-true (0 + length fs) (fieldCount z) (and-right (allSome fs) _ (and-right (only (sectionLetter z) f) _ h)))
+
 -- ---- a section
 
 lines-printed : (z : Section) (r at : ℕ) (ps : List (List ℕ)) (n : ℕ) → empty ps ≡ false → sectionOf z r at ps ≡ Check.Good n
     → join 10 ps ≡ printed z (map fieldsIn (ended ps))
-unfolding sectionOf ended printed spread
+unfolding sectionBy ended printed spread
 lines-printed z r at [] n g h = absurd (true-false refl g)
 lines-printed z r at (l ∷ []) n g h =
     ⊎-elim (λ p. rw (empty-is l p))
@@ -93,7 +104,7 @@ lines-printed z r at (l ∷ m ∷ ms) n g h =
     let k = rw (and-false (empty l)) at h in
     ⊎-elim (λ q. never (Check.Rows at) n (rw q at k) refl)
     (λ q. let v = rw q at k in
-    ap (λ (x : List ℕ). x ++ (10 ∷ join 10 (m ∷ ms))) (line-printed z l (line-form z at l _ n v))
+    ap (λ (x : List ℕ). x ++ (10 ∷ join 10 (m ∷ ms))) (line-printed z l (line-form allowed z at l _ n v))
     ∙ ap (λ (x : List ℕ). sectionLetter z ∷ (spread 32 (fieldsIn l) ++ (10 ∷ x)))
     (lines-printed z (r + 1) (at + length l + 1) (m ∷ ms) n refl (after-rest (lineOf z at l) _ n v)))
     (decided (leb (sizeOf z) r))
@@ -106,7 +117,7 @@ good-is : (m n : ℕ) → Check.Good m ≡ Check.Good n → n ≡ m
 good-is m n h = cc
 
 lines-count : (z : Section) (r at : ℕ) (ps : List (List ℕ)) (n : ℕ) → empty ps ≡ false → sectionOf z r at ps ≡ Check.Good n → n ≡ r + length (ended ps)
-unfolding sectionOf ended
+unfolding sectionBy ended
 lines-count z r at [] n g h = absurd (true-false refl g)
 lines-count z r at (l ∷ []) n g h =
     ⊎-elim (λ p. let e = good-is r n (rw p at h) in omega arith) (λ p. neither (leb (sizeOf z) r) at n (rw p at h)) (decided (empty l))
@@ -121,7 +132,7 @@ pub section-rows : (z : Section) (at : ℕ) (l : List ℕ) (n : ℕ) → checkOf
 section-rows z at l n h = let e = lines-count z 0 at (pieces 10 l) n (pieces-some 10 l) h in omega arith
 
 lines-most : (z : Section) (r at : ℕ) (ps : List (List ℕ)) (n : ℕ) → empty ps ≡ false → r ≤ sizeOf z → sectionOf z r at ps ≡ Check.Good n → n ≤ sizeOf z
-unfolding sectionOf
+unfolding sectionBy
 lines-most z r at [] n g b h = absurd (true-false refl g)
 lines-most z r at (l ∷ []) n g b h =
     ⊎-elim (λ p. let e = good-is r n (rw p at h) in omega arith) (λ p. neither (leb (sizeOf z) r) at n (rw p at h)) (decided (empty l))
@@ -135,62 +146,53 @@ lines-most z r at (l ∷ m ∷ ms) n g b h =
 pub section-most : (z : Section) (at : ℕ) (l : List ℕ) (n : ℕ) → checkOf z at l ≡ Check.Good n → n ≤ sizeOf z
 section-most z at l n h = lines-most z 0 at (pieces 10 l) n (pieces-some 10 l) (omega arith) h
 
--- ---- every field of an accepted section is good
+-- ---- every field of an accepted section is good, by any digit rule
 
--- a row has its section's fields, each of them what is asked
-pub record Sound (z : Section) (fs : List (List ℕ)) : Type 0 where
-  pub count : length fs ≡ fieldCount z
-  pub good : (j : ℕ) → j < length fs → goodOf (wantOf z j) (getD fs j []) ≡ true
+module _ (rule : DigitRule) where
+  -- a row has its section's fields, each of them what is asked
+  pub record SoundBy (z : Section) (fs : List (List ℕ)) : Type 0 where
+    pub count : length fs ≡ fieldCount z
+    pub good : (j : ℕ) → j < length fs → goodBy rule (wantOf z j) (getD fs j []) ≡ true
 
-fields-good : (z : Section) (j at n : ℕ) (fs : List (List ℕ)) → fieldsOf z j at fs ≡ Check.Good n → (i : ℕ) → i < length fs
-    → goodOf (wantOf z (j + i)) (getD fs i []) ≡ true
-unfolding fieldsOf
-fields-good z j at n [] h i k = absurd (not-suc-le-zero k)
-fields-good z j at n (f ∷ fs) h zero k =
-    ⊎-elim (λ q. rw add-zero q) (λ q. never (Check.Field at) n (rw q at h) refl) (decided (goodOf (wantOf z j) f))
-fields-good z j at n (f ∷ fs) h (suc i) k =
-    ⊎-elim
-    (λ q. let e : j + suc i ≡ j + 1 + i = omega arith in rw e (fields-good z (j + 1) (at + length f + 1) n fs (rw q at h) i (le-of-suc-le-suc k)))
-    (λ q. never (Check.Field at) n (rw q at h) refl)
-    (decided (goodOf (wantOf z j) f))
+  fields-good : (z : Section) (j at n : ℕ) (fs : List (List ℕ)) → fieldsBy rule z j at fs ≡ Check.Good n → (i : ℕ) → i < length fs
+      → goodBy rule (wantOf z (j + i)) (getD fs i []) ≡ true
+  unfolding fieldsBy
+  fields-good z j at n [] h i k = absurd (not-suc-le-zero k)
+  fields-good z j at n (f ∷ fs) h zero k =
+      ⊎-elim (λ q. rw add-zero q) (λ q. never (Check.Field at) n (rw q at h) refl) (decided (goodBy rule (wantOf z j) f))
+  fields-good z j at n (f ∷ fs) h (suc i) k =
+      ⊎-elim
+      (λ q. let e : j + suc i ≡ j + 1 + i = omega arith in rw e (fields-good z (j + 1) (at + length f + 1) n fs (rw q at h) i (le-of-suc-le-suc k)))
+      (λ q. never (Check.Field at) n (rw q at h) refl)
+      (decided (goodBy rule (wantOf z j) f))
 
-counted : (z : Section) (ps : List (List ℕ)) → formOf z ps ≡ true → length (tail ps) ≡ fieldCount z
-counted z [] h = absurd (true-false h refl)
-counted z (f ∷ fs) h = rw (zero-add (length fs)) at (eqb-true (0 + length fs) (fieldCount z) (and-right (allSome fs) _ (and-right (only (sectionLetter z) f) _ h)))
+  line-fields : (z : Section) (at n : ℕ) (l : List ℕ) → formOf z (pieces 32 l) ≡ true → lineBy rule z at l ≡ Check.Good n
+      → fieldsBy rule z 0 (at + 2) (fieldsIn l) ≡ Check.Good n
+  line-fields z at n l g h = rw g at h
 
-after-first : (v w : Check) (n : ℕ) → after v w ≡ Check.Good n → (m : ℕ) × (v ≡ Check.Good m)
-after-first (Check.Good k) w n h = (k, refl)
-after-first (Check.Rows k) w n h = never (Check.Rows k) n h refl
-after-first (Check.Form k) w n h = never (Check.Form k) n h refl
-after-first (Check.Field k) w n h = never (Check.Field k) n h refl
+  line-sound : (z : Section) (at : ℕ) (l : List ℕ) (w : Check) (n : ℕ) → after (lineBy rule z at l) w ≡ Check.Good n → SoundBy z (fieldsIn l)
+  line-sound z at l w n h =
+      let g = line-form rule z at l w n h in
+      let m = after-first (lineBy rule z at l) w n h in
+      record {
+        count = counted z (pieces 32 l) g;
+        good = λ j k. rw (zero-add j) at (fields-good z 0 (at + 2) (m .0) (fieldsIn l) (line-fields z at (m .0) l g (m .1)) j k);
+      }
 
-line-fields : (z : Section) (at n : ℕ) (l : List ℕ) → formOf z (pieces 32 l) ≡ true → lineOf z at l ≡ Check.Good n
-    → fieldsOf z 0 (at + 2) (fieldsIn l) ≡ Check.Good n
-line-fields z at n l g h = rw g at h
+  lines-sound : (z : Section) (r at : ℕ) (ps : List (List ℕ)) (n : ℕ) → sectionBy rule z r at ps ≡ Check.Good n → (k : ℕ) → k < length (ended ps)
+      → SoundBy z (getD (map fieldsIn (ended ps)) k [])
+  unfolding sectionBy ended
+  lines-sound z r at [] n h k i = absurd (not-suc-le-zero i)
+  lines-sound z r at (l ∷ []) n h k i = absurd (not-suc-le-zero i)
+  lines-sound z r at (l ∷ m ∷ ms) n h zero i =
+      let u = rw (and-false (empty l)) at h in
+      ⊎-elim (λ q. never (Check.Rows at) n (rw q at u) refl) (λ q. line-sound z at l _ n (rw q at u)) (decided (leb (sizeOf z) r))
+  lines-sound z r at (l ∷ m ∷ ms) n h (suc k) i =
+      let u = rw (and-false (empty l)) at h in
+      ⊎-elim (λ q. never (Check.Rows at) n (rw q at u) refl)
+      (λ q. lines-sound z (r + 1) (at + length l + 1) (m ∷ ms) n (after-rest (lineBy rule z at l) _ n (rw q at u)) k (le-of-suc-le-suc i))
+      (decided (leb (sizeOf z) r))
 
-line-sound : (z : Section) (at : ℕ) (l : List ℕ) (w : Check) (n : ℕ) → after (lineOf z at l) w ≡ Check.Good n → Sound z (fieldsIn l)
-line-sound z at l w n h =
-    let g = line-form z at l w n h in
-    let m = after-first (lineOf z at l) w n h in
-    record {
-      count = counted z (pieces 32 l) g;
-      good = λ j k. rw (zero-add j) at (fields-good z 0 (at + 2) (m .0) (fieldsIn l) (line-fields z at (m .0) l g (m .1)) j k);
-    }
-
-lines-sound : (z : Section) (r at : ℕ) (ps : List (List ℕ)) (n : ℕ) → sectionOf z r at ps ≡ Check.Good n → (k : ℕ) → k < length (ended ps)
-    → Sound z (getD (map fieldsIn (ended ps)) k [])
-unfolding sectionOf ended
-lines-sound z r at [] n h k i = absurd (not-suc-le-zero i)
-lines-sound z r at (l ∷ []) n h k i = absurd (not-suc-le-zero i)
-lines-sound z r at (l ∷ m ∷ ms) n h zero i =
-    let u = rw (and-false (empty l)) at h in
-    ⊎-elim (λ q. never (Check.Rows at) n (rw q at u) refl) (λ q. line-sound z at l _ n (rw q at u)) (decided (leb (sizeOf z) r))
-lines-sound z r at (l ∷ m ∷ ms) n h (suc k) i =
-    let u = rw (and-false (empty l)) at h in
-    ⊎-elim (λ q. never (Check.Rows at) n (rw q at u) refl)
-    (λ q. lines-sound z (r + 1) (at + length l + 1) (m ∷ ms) n (after-rest (lineOf z at l) _ n (rw q at u)) k (le-of-suc-le-suc i))
-    (decided (leb (sizeOf z) r))
-
--- row k of an accepted section is sound
-pub section-sound : (z : Section) (at : ℕ) (l : List ℕ) (n : ℕ) → checkOf z at l ≡ Check.Good n → (k : ℕ) → k < length (rowsOf l) → Sound z (getD (fieldTable l) k [])
-section-sound z at l n h k i = lines-sound z 0 at (pieces 10 l) n h k i
+  -- row k of an accepted section is sound
+  pub section-sound : (z : Section) (at : ℕ) (l : List ℕ) (n : ℕ) → checkBy rule z at l ≡ Check.Good n → (k : ℕ) → k < length (rowsOf l) → SoundBy z (getD (fieldTable l) k [])
+  section-sound z at l n h k i = lines-sound z 0 at (pieces 10 l) n h k i

@@ -14,7 +14,7 @@ use Rattle.real.specs.Tests.{decided, below-or}
 use Rattle.fields.specs.Cut.Laws.{slice-some, slice-none}
 use Rattle.rows.specs.Asked.{sizeOf}
 use Rattle.rows.specs.Line.{lineOf}
-use Rattle.rows.specs.Rows.{after, sectionOf, ended, rowsOf}
+use Rattle.rows.specs.Rows.{after, sectionBy, sectionOf, ended, rowsOf}
 use Rattle.rows.specs.declared.Section.{Section}
 use Rattle.rows.specs.declared.Check.{Check}
 use Rattle.rows.specs.declared.Check.the-variants as Check
@@ -32,19 +32,19 @@ pieces-some x (b ∷ r) = ⊎-elim (λ p. rw p) (λ p. rw p (never-none b (piece
 
 module _ (z : Section) (r : ℕ) (s : List ℕ) (i e p : ℕ) (h : i < e) (k : e ≤ length s) (f : Found s i e 10 p) where
   pub too-many : sizeOf z ≤ r → sectionOf z r i (pieces 10 (slice i e s)) ≡ Check.Rows i
-  unfolding sectionOf
+  unfolding sectionBy
   too-many g =
       ⊎-elim (λ q. rw (f .more q, pieces-some, and-false, le-leb (sizeOf z) r g))
       (λ q. let u : i < p = omega arith in let w : p ≤ length s = omega (arith, f .high) in rw (f .last q, slice-some s i p u w, le-leb (sizeOf z) r g))
       (below-or p e)
 
   pub unended : r < sizeOf z → e ≤ p → sectionOf z r i (pieces 10 (slice i e s)) ≡ Check.Form i
-  unfolding sectionOf
+  unfolding sectionBy
   unended g q = let w : p ≤ length s = omega (arith, f .high) in rw (f .last q, slice-some s i p (omega arith) w, lt-leb (sizeOf z) r g)
 
   one-line : r < sizeOf z → p < e
       → sectionOf z r i (pieces 10 (slice i e s)) ≡ after (lineOf z i (slice i p s)) (sectionOf z (r + 1) (p + 1) (pieces 10 (slice (p + 1) e s)))
-  unfolding sectionOf
+  unfolding sectionBy
   one-line g q =
       let w : p ≤ length s = omega (arith, f .high) in
       let v : i + length (slice i p s) + 1 ≡ p + 1 = omega (arith, length-slice i p s w, f .low) in
@@ -59,7 +59,7 @@ module _ (z : Section) (r : ℕ) (s : List ℕ) (i e p : ℕ) (h : i < e) (k : e
   line-refused g q v u w = one-line g q ∙ rw (← u) (w _)
 
 pub section-end : (z : Section) (r : ℕ) (s : List ℕ) (i e : ℕ) → i ≡ e → sectionOf z r i (pieces 10 (slice i e s)) ≡ Check.Good r
-unfolding pieces sectionOf
+unfolding pieces sectionBy
 section-end z r s i e q = rw (slice-none s i e q)
 
 -- ---- the rows from a place on

@@ -1,16 +1,17 @@
--- `trailer::group` meets its contract: five digits stay far below the limit. Assumes nothing.
-use mathlib.Core.Path.{_≡_}
-use Prim.Native.Nat.{_+_, _-_}
+-- `trailer::group` meets its contract: there is room for five digits. Assumes nothing.
+use Prim.Native.Nat.{_+_}
 use native.Mathlib.Omega.{arith}
+use lib.Seq.{length-slice}
 use borrow.Author.Needs.{needs}
 use borrow.Author.Tests.{eq-eqb, ne-eqb}
+use Rattle.fields.specs.Digits.Laws.{room-short}
 use Rattle.trailer.proofs.group.Statement.{statement}
 use Rattle.trailer.proofs.group.Tie as tie
 
 whole-requires : tie.Need-whole-requires
 whole-requires c κs =
     let a = c .before .before .before .args in
-    (search needs, let q : a .at + 6 - (a .at + 1) ≡ 5 = omega arith in rw q (omega arith))
+    (search needs, room-short _ (rw (length-slice (a .at + 1) (a .at + 6) (a .s .now) (omega arith)) (omega arith)))
 
 returns : tie.Need-returns
 returns c = rw (eq-eqb _ 32 (c .before .if1 .taken)) (c .whole .ensures)

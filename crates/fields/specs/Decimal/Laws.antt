@@ -1,0 +1,166 @@
+-- A real's value is the decimal that it writes, rounded once: the double nearest to it, ties to even. For the digits that may count are a whole number below
+-- 10^15 and the decimals' power of ten is at most 10^22, so both are doubles, and their quotient is rounded once. Assumes nothing.
+use mathlib.Core.Path.{_≡_, refl, sym, ap, _∙_}
+use mathlib.Core.Bool.{Bool, true, false, true≢false, cond}
+use mathlib.Core.Logic.{⊎-elim}
+use mathlib.Core.List.{List, [], _∷_}
+use Prim.Native.Nat.{ℕ, zero, suc, _+_, _*_, _^_, _≤_, _<_}
+use native.Mathlib.Nat.{lt-of-le-of-lt, lt-of-lt-of-le, mul-one, mul-assoc, mul-comm, mul-left-comm, mul-pos, pow-succ', pow-le-pow-right, one-le-pow, lt-irrefl, zero-mul}
+use native.Mathlib.Omega.{arith}
+use lib.Dec.{eqb, lit<}
+use lib.Pow.{pow-add, pow-mono, shl-lt}
+use lib.Ieee.{Float, nan, inf, fin, Format, binary64, prec, emax, low, up, down, neg, round, div, ofInt}
+use lib.ListN.{length}
+use lib.Ieee.Fits.{down-pos}
+use lib.Ieee.Exact.{HasValue, round-exact}
+use lib.Ieee.Back.{round-whole}
+use lib.Ieee.Scale.{round-same}
+use borrow.Author.Tests.{ne-eqb}
+use Rattle.real.specs.Tests.{decided, true-false, no-case}
+use Rattle.real.specs.Literals.{double}
+use Rattle.real.specs.Nearest.{NearestDouble}
+use Rattle.real.specs.Nearest.Laws.{round-nearest-small}
+use Rattle.real.proofs.Rounding.{neg-round}
+use Rattle.fields.specs.Cut.{upto, past, has, empty}
+use Rattle.fields.specs.Cut.Laws.{empty-is, has-not, past-none}
+use Rattle.fields.specs.Digits.{digits, number}
+use Rattle.fields.specs.Real.{allowed, valueOf, negatedOf, amountBy, pointedBy, amountOf, unsignedOf, realOf}
+use Rattle.fields.specs.Real.Laws.{no-digits, too-many, not-whole, not-decimals, few-decimals, below-limit}
+use Rattle.fields.specs.Decimal.{minus, wholes, decimals, numerator, denominator}
+use Rattle.fields.specs.declared.Real.{Real}
+use Rattle.fields.specs.declared.Real.the-variants as Real
+
+-- ---- powers of ten
+
+five-two : (k : ℕ) → 10 ^ k ≡ 5 ^ k * 2 ^ k
+five-two zero = refl
+five-two (suc k) =
+    let a = pow-succ' 10 k in
+    let b = pow-succ' 5 k in
+    let c = pow-succ' 2 k in
+    let d : 5 * 5 ^ k * (2 * 2 ^ k) ≡ 5 * (2 * (5 ^ k * 2 ^ k)) = simp (mul-assoc, mul-comm, mul-left-comm) in
+    let e : 5 * (2 * (5 ^ k * 2 ^ k)) ≡ 10 * (5 ^ k * 2 ^ k) = omega arith in
+    a ∙ ap (λ (x : ℕ). 10 * x) (five-two k) ∙ sym (d ∙ e) ∙ sym (ap (λ (x : ℕ). x * 2 ^ suc k) b ∙ ap (λ (x : ℕ). 5 * 5 ^ k * x) c)
+
+-- up to 10^22 each is a double: 5^22 has no more than 53 binary digits
+pub power-exact : (k : ℕ) → k ≤ 22 → HasValue (double (10 ^ k)) false (10 ^ k) 1
+unfolding ofInt
+power-exact k h = scaled binary64 refl refl
+  where
+    scaled : (f : Format) → prec f ≡ 53 → emax f ≡ 1023 → HasValue (round f false (10 ^ k) 1) false (10 ^ k) 1
+    scaled f p e =
+        let q : 5 ^ k < 2 ^ prec f = rw p (lt-of-le-of-lt (pow-le-pow-right (lit< tt) h) (lit< tt)) in
+        let j = k + low f in
+        let v : 10 ^ k * 2 ^ low f ≡ 5 ^ k * 2 ^ j * 1 =
+        ap (λ (x : ℕ). x * 2 ^ low f) (five-two k) ∙ mul-assoc (5 ^ k) (2 ^ k) (2 ^ low f) ∙ ap (λ (x : ℕ). 5 ^ k * x) (sym (pow-add 2 k (low f))) ∙ sym (mul-one (5 ^ k * 2 ^ j)) in
+        let r : prec f + j ≤ low f + suc (emax f) = omega (arith, p, e, h) in
+        round-exact f false (10 ^ k) 1 (5 ^ k) j (lit< tt) q (lt-of-lt-of-le (shl-lt (prec f) j q) (pow-mono r)) v
+
+-- and 10^23 is none, so 22 is the most
+pub power-inexact : HasValue (double (10 ^ 23)) false (10 ^ 23) 1 → ⊥
+unfolding ofInt round
+power-inexact h = true≢false (sym (ap (λ (n : ℕ). eqb n (10 ^ 23)) (h .1)))
+
+-- ---- a quotient of whole doubles is rounded once
+
+div-whole : (f : Format) (x y : Float) (a b : ℕ) → 0 < b → HasValue x false a 1 → HasValue y false b 1 → div f x y ≡ round f false a b
+unfolding div
+div-whole f nan y a b B p q = absurd p
+div-whole f (inf s) y a b B p q = absurd p
+div-whole f (fin true m e) y a b B p q = absurd (true-false refl (p .0))
+div-whole f (fin false m e) nan a b B p q = absurd q
+div-whole f (fin false m e) (inf t) a b B p q = absurd q
+div-whole f (fin false m e) (fin true n d) a b B p q = absurd (true-false refl (q .0))
+div-whole f (fin false m e) (fin false n d) a b B p q =
+    let u : m * up e ≡ a * down e = sym (mul-one (m * up e)) ∙ p .1 in
+    let v : n * up d ≡ b * down d = sym (mul-one (n * up d)) ∙ q .1 in
+    let P : 0 < n * up d = rw v (mul-pos B (down-pos d)) in
+    let z : (n ≡ 0 → ⊥) = λ g. lt-irrefl 0 (rw (g, zero-mul) at P) in
+    let c : m * up e * down d * b ≡ a * (n * up d * down e) = rw (u, v) (simp (mul-assoc, mul-comm, mul-left-comm)) in
+    rw (ne-eqb n 0 z) (round-same f false (m * up e * down d) (n * up d * down e) a b (mul-pos P (down-pos e)) B c)
+
+-- ---- what a value says of the digits
+
+pub record Written (w d : List ℕ) (x : Float) : Type 0 where
+  pub few : allowed w d ≡ true
+  pub whole : digits w ≡ true
+  pub rest : digits d ≡ true
+  pub value : x ≡ valueOf w d
+
+module _ (w d : List ℕ) (x : Float) (h : amountOf w d ≡ Real.Value x) where
+  never : {A : Type 0} → amountOf w d ≡ Real.Wrong → A
+  never g = let e : Real.Value x ≡ Real.Wrong = sym h ∙ g in no-case cc
+
+  few-written : allowed w d ≡ true
+  few-written = ⊎-elim (λ q. q) (λ q. never (too-many allowed w d q)) (decided (allowed w d))
+
+  whole-written : digits w ≡ true
+  whole-written = ⊎-elim (λ q. q) (λ q. never (not-whole w d q)) (decided (digits w))
+
+  rest-written : digits d ≡ true
+  rest-written = ⊎-elim (λ q. q) (λ q. never (not-decimals w d q)) (decided (digits d))
+
+  some-written : empty w ≡ false
+  some-written = ⊎-elim (λ q. never (rw (empty-is w q) (no-digits d))) (λ q. q) (decided (empty w))
+
+  amount-written : Written w d x
+  unfolding amountBy
+  amount-written =
+      let e : Real.Value (valueOf w d) ≡ Real.Value x = rw (some-written, whole-written, rest-written, few-written) at h in
+      record { few = few-written; whole = whole-written; rest = rest-written; value = cc }
+
+-- a field without a minus
+unsigned-written : (l : List ℕ) (x : Float) → unsignedOf l ≡ Real.Value x → Written (upto 46 l) (past 46 l) x
+unsigned-written l x h = ⊎-elim (λ q. pointed-written (rw q at h)) plain (decided (has 46 l))
+  where
+    pointed-written : pointedBy allowed l ≡ Real.Value x → Written (upto 46 l) (past 46 l) x
+    pointed-written g =
+        ⊎-elim (λ e. let f : Real.Wrong ≡ Real.Value x = rw e at g in no-case cc) (λ e. amount-written (upto 46 l) (past 46 l) x (rw e at g)) (decided (empty (past 46 l)))
+
+    plain : has 46 l ≡ false → Written (upto 46 l) (past 46 l) x
+    plain q = rw (has-not 46 l q, past-none 46 l q) (amount-written l [] x (rw q at h))
+
+-- its digits are a whole number below 10^15, and its decimals are at most 22
+number-small : (w d : List ℕ) (x : Float) → Written w d x → number (number 0 w) d < 10 ^ 15
+number-small w d x k = below-limit w d (k .few) (number 0 w) (rw (k .whole)) (number (number 0 w) d) (rw (k .rest))
+
+-- so the value is the fraction, rounded once
+written-rounded : (w d : List ℕ) (x : Float) → Written w d x → x ≡ round binary64 false (number (number 0 w) d) (10 ^ length d)
+unfolding ofInt
+written-rounded w d x k =
+    k .value
+    ∙ div-whole binary64 _ _ (number (number 0 w) d) (10 ^ length d) (one-le-pow (length d) 10 (lit< tt))
+    (round-whole binary64 false (number (number 0 w) d) (omega (arith, number-small w d x k)))
+    (power-exact (length d) (few-decimals w d (k .few)))
+
+-- ---- the field
+
+negated-value : (r : Real) (x : Float) → negatedOf r ≡ Real.Value x → (y : Float) × (r ≡ Real.Value y) × (x ≡ neg y)
+negated-value (Real.Value y) x h = (y, refl, cc)
+negated-value Real.Wrong x h = no-case cc
+
+-- a real's digits, whose value a minus negates
+pub real-written : (l : List ℕ) (x : Float) → realOf l ≡ Real.Value x → (y : Float) × Written (wholes l) (decimals l) y × (x ≡ cond (minus l) (neg y) y)
+real-written [] x h = no-case cc
+real-written (b ∷ r) x h = ⊎-elim signed (λ q. (x, rw q (unsigned-written (b ∷ r) x (rw q at h)), rw q)) (decided (eqb b 45))
+  where
+    signed : eqb b 45 ≡ true → (y : Float) × Written (wholes (b ∷ r)) (decimals (b ∷ r)) y × (x ≡ cond (eqb b 45) (neg y) y)
+    signed q = let v = negated-value (unsignedOf r) x (rw q at h) in (v .0, rw q (unsigned-written r (v .0) (v .1)), rw q (v .2))
+
+signed-round : (s : Bool) (a b : ℕ) → cond s (neg (round binary64 false a b)) (round binary64 false a b) ≡ round binary64 s a b
+signed-round true a b = neg-round binary64 false a b
+signed-round false a b = refl
+
+-- the value of a real is its decimal, rounded once
+pub real-rounded : (l : List ℕ) (x : Float) → realOf l ≡ Real.Value x → x ≡ round binary64 (minus l) (numerator l) (denominator l)
+real-rounded l x h =
+    let v = real-written l x h in
+    v .2 ∙ ap (λ (y : Float). cond (minus l) (neg y) y) (written-rounded (wholes l) (decimals l) (v .0) (v .1)) ∙ signed-round (minus l) (numerator l) (denominator l)
+
+-- and so it is the double nearest to the decimal that is written, ties to even
+pub real-nearest : (l : List ℕ) (x : Float) → realOf l ≡ Real.Value x → NearestDouble x (minus l) (numerator l) (denominator l)
+real-nearest l x h =
+    let v = real-written l x h in
+    let b : 1 ≤ denominator l = one-le-pow (length (decimals l)) 10 (lit< tt) in
+    let a : numerator l < 10 ^ 15 = number-small (wholes l) (decimals l) (v .0) (v .1) in
+    rw (real-rounded l x h) (round-nearest-small (minus l) (numerator l) (denominator l) b (omega arith))
