@@ -73,6 +73,12 @@ def texts(seed, count):
     return out[:count]
 
 
+def padded(seed, count):
+    """Texts with padded numbers alone."""
+    rng = random.Random(f"padded alone {seed}")
+    return [f.padded(rng, k).text() for k in range(count)]
+
+
 def answers(oracle, batch):
     """What the altered Rust answers each text, and its counters of each run."""
     data = b"".join(struct.pack(">I", len(t)) + t for t in batch)

@@ -1,9 +1,9 @@
 #!/usr/bin/env python3
 """Runs freshly drawn texts through the solve program and the altered Rust, side by side, and prints every mismatch.
 
-    python3 oracle/compare.py SOLVE ORACLE SEED COUNT
-SOLVE reads a case text on standard input and prints the answer; COUNT is 1 or more. Texts that differ are saved under target/mismatches.
-Exit 1 on a mismatch.
+    python3 oracle/compare.py SOLVE ORACLE SEED COUNT [padded]
+SOLVE reads a case text on standard input and prints the answer; COUNT is 1 or more. With `padded` all texts have padded numbers, about the limits of
+request 2 of 02. Texts that differ are saved under target/mismatches. Exit 1 on a mismatch.
 """
 import os
 import subprocess
@@ -37,10 +37,10 @@ def save(seed, place, text):
 
 
 def main():
-    if len(sys.argv) != 5 or int(sys.argv[4]) < 1:
+    if len(sys.argv) not in (5, 6) or sys.argv[5:] not in ([], ["padded"]) or int(sys.argv[4]) < 1:
         sys.exit(__doc__)
     program, oracle, seed, count = os.path.abspath(sys.argv[1]), sys.argv[2], int(sys.argv[3]), int(sys.argv[4])
-    texts = cases.texts(seed, count)
+    texts = (cases.padded if sys.argv[5:] else cases.texts)(seed, count)
     wrong, answers, met = 0, [], []
     with ThreadPoolExecutor(2) as two:
         for first in range(0, count, BATCH):
@@ -54,7 +54,7 @@ def main():
                     wrong += 1
                     a, b = unlike(ours[i], answers[first + i])
                     print(f"text {first + i} ({save(seed, first + i, text)}):\n  ours {a!r}\n  Rust {b!r}")
-    print(f"{count} texts of seed {seed}: {wrong} mismatches")
+    print(f"{count} {'padded ' if sys.argv[5:] else ''}texts of seed {seed}: {wrong} mismatches")
     cases.report(cases.classes(texts, answers, met))
     sys.exit(wrong > 0)
 

@@ -23,7 +23,8 @@ use Rattle.rows.specs.declared.Section.the-variants as Section
 use Rattle.rows.specs.declared.Check.{Check}
 use Rattle.rows.specs.declared.Check.the-variants as Check
 use Rattle.columns.specs.Columns.{filledBranches}
-use Rattle.columns.specs.Before.{SoundBefore, buses-kept, slacks-kept, generators-kept, triplets-kept}
+use Rattle.columns.specs.Figures.{RowsSound}
+use Rattle.columns.specs.Before.{buses-kept, slacks-kept, generators-kept, triplets-kept}
 use Rattle.trailer.specs.Trailer.{trailerLength, trailerStart, trailerOf, sectionStart, sectionEnd, bytesOf}
 use Rattle.trailer.specs.Trailer.Laws.{Within, within}
 use Rattle.case_text.specs.Alphabet.{knownOf}
@@ -141,7 +142,7 @@ module _ (s : List ℕ) where
 
   -- ---- the columns
 
-  sound-before : (z : Section) (n : ℕ) → partBy allowedBefore z s (trailerStart s) ≡ Check.Good n → SoundBefore z (bytesOf z s (trailerStart s))
+  sound-before : (z : Section) (n : ℕ) → partBy allowedBefore z s (trailerStart s) ≡ Check.Good n → RowsSound allowedBefore z (bytesOf z s (trailerStart s))
   unfolding partBy
   sound-before z n h = section-sound allowedBefore z (sectionStart z s (trailerStart s)) (bytesOf z s (trailerStart s)) n h
 

@@ -1,7 +1,7 @@
 -- No byte of an accepted text is skipped: it is its rows and its trailer, printed; every field of a row is good, and the trailer's groups are
--- five digits. Assumes nothing.
+-- five digits; and every figure is the double nearest to its decimal. Assumes nothing.
 use mathlib.Core.Path.{_≡_, refl, sym, ap, _∙_}
-use mathlib.Core.Bool.{true}
+use mathlib.Core.Bool.{true, false}
 use mathlib.Core.Logic.{⊎-elim}
 use mathlib.Core.List.{List, [], _∷_, _++_, append-assoc}
 use Prim.Native.Nat.{ℕ, zero, suc, _+_, _*_, _≤_, _<_}
@@ -13,17 +13,23 @@ use lib.Seq.{slice, drop-cons, drop-append-le, length-take-le}
 use borrow.Author.Tests.{eqb-true, eq-eqb}
 use Rattle.real.specs.Tests.{decided, true-false}
 use Rattle.fields.specs.Digits.{digits, digitsOf, isNumber}
+use Rattle.real.specs.Nearest.{NearestDouble}
+use Rattle.fields.specs.Cut.{only}
 use Rattle.fields.specs.Real.{allowed}
+use Rattle.fields.specs.Decimal.{minus, numerator, denominator}
+use Rattle.rows.specs.Asked.{fieldCount, wantOf}
 use Rattle.rows.specs.Rows.{rowsOf}
 use Rattle.rows.specs.Printed.{fieldTable}
 use Rattle.rows.specs.Printed.Laws.{section-printed, section-sound, SoundBy}
 use Rattle.rows.specs.declared.Section.{Section}
 use Rattle.rows.specs.declared.Section.the-variants as Section
 use Rattle.rows.specs.declared.Check.the-variants as Check
+use Rattle.columns.specs.Columns.{rowCount, cellOf, realField}
+use Rattle.columns.specs.Figures.{Reals, figure-nearest}
 use Rattle.trailer.specs.Trailer.{groups, widthOf, trailerLength, trailerStart, groupAt, startAt, risingOf, indexOf, sectionStart, sectionEnd, bytesOf}
 use Rattle.trailer.specs.Trailer.Laws.{first-group, groups-after, GoodTrailer, good-trailer, rising, Within, within}
 use Rattle.case_text.specs.Text.{partBy, partOf, textOf}
-use Rattle.case_text.specs.Text.Laws.{accepted-has}
+use Rattle.case_text.specs.Text.Laws.{Accepted, accepted-has}
 use Rattle.case_text.specs.Printed.{rowsPrinted, groupsPrinted, trailerPrinted, textPrinted}
 use Rattle.case_text.specs.declared.Contents.{Contents}
 use Rattle.case_text.specs.declared.Reading.the-variants as Reading
@@ -102,3 +108,22 @@ pub fields-sound : (s : List ℕ) (t n : ℕ) (z : Section) → partOf z s t ≡
     → SoundBy allowed z (getD (fieldTable (bytesOf z s t)) k [])
 unfolding partBy
 fields-sound s t n z h k i = section-sound allowed z (sectionStart z s t) (bytesOf z s t) n h k i
+
+-- ---- the figures
+
+-- each section of an accepted text has sound rows
+accepted-part : (s : List ℕ) (t : ℕ) (c : Contents) (z : Section) → Accepted s t c → (n : ℕ) × (partOf z s t ≡ Check.Good n)
+accepted-part s t c Section.B a = (c .rows .buses, a .body .buses)
+accepted-part s t c Section.R a = (c .rows .slacks, a .body .slacks)
+accepted-part s t c Section.G a = (c .rows .generators, a .body .generators)
+accepted-part s t c Section.L a = (c .rows .branches, a .body .branches)
+accepted-part s t c Section.Y a = (c .rows .triplets, a .body .triplets)
+
+-- every figure that is read of an accepted text is the double nearest to the decimal that stands in its line; `?` stands for none
+pub text-figures : (s : List ℕ) (c : Contents) → textOf s ≡ Reading.Good c → (z : Section) (k j : ℕ) → let l = bytesOf z s (trailerStart s) in
+    k < rowCount l → j < fieldCount z → Reals (wantOf z j) → let f = cellOf j (getD (rowsOf l) k []) in only 63 f ≡ false
+    → NearestDouble (realField j (getD (rowsOf l) k [])) (minus f) (numerator f) (denominator f)
+text-figures s c h z k j p g r q =
+    let t = trailerStart s in
+    let part = accepted-part s t c z (accepted-has s c h) in
+    figure-nearest z (bytesOf z s t) (fields-sound s t (part .0) z (part .1)) k j p g r q
