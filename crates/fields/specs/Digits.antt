@@ -1,9 +1,9 @@
 -- Digits as a whole number, for every length; which of them count; and 01's bus number.
 pub mod Laws
-use Prim.Native.Nat.{ℕ, _+_, _-_, _*_, _^_, _≤_}
+use Prim.Native.Nat.{ℕ, _+_, _-_, _*_, _^_}
 use mathlib.Core.Bool.{Bool, true, false, cond, _&&_, _||_, not}
 use mathlib.Core.List.{List, [], _∷_}
-use lib.Dec.{eqb, leb}
+use lib.Dec.{eqb, leb, ltb}
 use lib.ListN.{length}
 use Rattle.fields.specs.Cut.{empty}
 use Rattle.fields.specs.declared.Digits.{Digits}
@@ -27,17 +27,13 @@ unfoldable pub counted : List ℕ → List ℕ
 counted [] = []
 counted (b ∷ r) = cond (eqb b 48) (counted r) (b ∷ r)
 
--- how many count after those that gave m: zeros in front count nothing where m is 0
-abbrev pub countAfter : ℕ → List ℕ → ℕ
-countAfter m l = cond (eqb m 0) (length (counted l)) (length l)
-
--- after those that gave m there is room for these: with them the number stays below 10^15
-abbrev pub Room : ℕ → List ℕ → Type 0
-Room m l = (m + 1) * 10 ^ countAfter m l ≤ 10 ^ 15
-
 -- digits alone, as a number, after those that gave m
 abbrev pub digitsOf : ℕ → List ℕ → Digits
 digitsOf m l = cond (digits l) (Digits.Number (number m l)) Digits.Other
+
+-- the same where the number stays below 10^15, which is where no more than 15 digits count (`count-limit`)
+abbrev pub limitedOf : ℕ → List ℕ → Digits
+limitedOf m l = cond (digits l && ltb (number m l) (10 ^ 15)) (Digits.Number (number m l)) Digits.Other
 
 -- "1 to 3 digits with no leading zero, except `0` itself"
 abbrev pub busOf : List ℕ → Digits

@@ -17,11 +17,8 @@ abbrev pub DigitRule : Type 0
 DigitRule = List ℕ → List ℕ → Bool
 
 -- 02, Ask 2: "5 is given when more than 15 counted digits or more than 22 decimals stand"
-abbrev pub fewOf : ℕ → ℕ → Bool
-fewOf n k = leb n 15 && leb k 22
-
 unfoldable pub allowed : DigitRule
-allowed w d = fewOf (length (counted (w ++ d))) (length d)
+allowed w d = leb (length (counted (w ++ d))) 15 && leb (length d) 22
 
 -- "the digits as a whole number divided once by the power of ten of its decimals"
 abbrev pub valueOf : List ℕ → List ℕ → Float

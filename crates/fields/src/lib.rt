@@ -1,14 +1,13 @@
 // The fields of a case text: a bus number, a real, and `?` for NaN. Each function reads the field that stands from a up to e.
 ghost use mathlib.Core.Path.{_≡_};
-ghost use Prim.Native.Nat.{_-_, _^_, _<_, _≤_};
-ghost use mathlib.Core.List.{_++_};
+ghost use Prim.Native.Nat.{_^_, _<_, _≤_};
 ghost use lib.ListN.{length};
 ghost use lib.Ieee.{binary64, div};
 ghost use lib.Seq.{slice};
 ghost use Rattle.real.specs.Literals.{double};
 ghost use Rattle.fields.specs.Cut.{Found, only};
-ghost use Rattle.fields.specs.Digits.{digitsOf, counted, Room, busOf, isNumber, numberIn};
-ghost use Rattle.fields.specs.Real.{fewOf, amountOf, unsignedOf, negatedOf, realOf, orNanOf, isReal, realIn};
+ghost use Rattle.fields.specs.Digits.{limitedOf, busOf, isNumber, numberIn};
+ghost use Rattle.fields.specs.Real.{amountOf, unsignedOf, negatedOf, realOf, orNanOf, isReal, realIn};
 
 // A field read as a real.
 pub enum Real {
@@ -51,11 +50,11 @@ pub fn is_byte(s: &[u8], a: usize, e: usize, x: u8) -> bool
     false
 }
 
-// The digits as a whole number, after those that gave `from`. So few of them count that it stays below 10^15, however many zeros stand in front.
+// The digits as a whole number, after those that gave `from`. It stays below 10^15: from 10^14 on a digit more would be the sixteenth that counts.
 pub fn whole(s: &[u8], a: usize, e: usize, from: usize) -> Digits
     requires { ⌜ (a ≤ e) × (e ≤ length (now s)) ⌝ }
-    requires { ⌜ Room from (slice a e (now s)) ⌝ }
-    ensures { λ r. ⌜ r ≡ digitsOf from (slice a e (now (s .entry))) ⌝ }
+    requires { ⌜ from < 10 ^ 15 ⌝ }
+    ensures { λ r. ⌜ r ≡ limitedOf from (slice a e (now (s .entry))) ⌝ }
 {
     let mut m = from;
     let mut i = a;
@@ -65,6 +64,9 @@ pub fn whole(s: &[u8], a: usize, e: usize, from: usize) -> Digits
             return Digits::Other;
         }
         if b'9' < b {
+            return Digits::Other;
+        }
+        if 99999999999999 < m {
             return Digits::Other;
         }
         m = m * 10 + ((b - b'0') as usize);
@@ -134,41 +136,6 @@ fn scaled(m: usize, k: usize) -> f64
     (m as f64) / ten(k)
 }
 
-// Where the digits that count begin: the place of the first byte from a up to e that is not zero, or e.
-fn past_zeros(s: &[u8], a: usize, e: usize) -> usize
-    requires { ⌜ (a ≤ e) × (e ≤ length (now s)) ⌝ }
-    ensures { λ r. ⌜ r ≡ e - length (counted (slice a e (now (s .entry)))) ⌝ }
-{
-    let mut i = a;
-    while i < e {
-        if s[i] != b'0' {
-            return i;
-        }
-        i += 1;
-    }
-    i
-}
-
-// How many of the digits from a up to b, with as decimals those from c up to e, count.
-fn count(s: &[u8], a: usize, b: usize, c: usize, e: usize) -> usize
-    requires { ⌜ (a ≤ b) × (b ≤ length (now s)) ⌝ }
-    requires { ⌜ (c ≤ e) × (e ≤ length (now s)) ⌝ }
-    ensures { λ r. ⌜ r ≡ length (counted (slice a b (now (s .entry)) ++ slice c e (now (s .entry)))) ⌝ }
-{
-    let p = past_zeros(s, a, b);
-    if p < b {
-        return (b - p) + (e - c);
-    }
-    e - past_zeros(s, c, e)
-}
-
-// Whether n digits that count and k decimals are few enough.
-fn few(n: usize, k: usize) -> bool
-    ensures { λ r. ⌜ r ≡ fewOf n k ⌝ }
-{
-    (n <= 15) & (k <= 22)
-}
-
 // The digits from a up to b, and as decimals those from c up to e.
 fn amount(s: &[u8], a: usize, b: usize, c: usize, e: usize) -> Real
     requires { ⌜ (a ≤ b) × (b ≤ length (now s)) ⌝ }
@@ -178,9 +145,8 @@ fn amount(s: &[u8], a: usize, b: usize, c: usize, e: usize) -> Real
     if a == b {
         return Real::Wrong;
     }
-    let n = count(s, a, b, c, e);
     let k = e - c;
-    if !few(n, k) {
+    if 22 < k {
         return Real::Wrong;
     }
     let Digits::Number(w) = whole(s, a, b, 0) else {

@@ -25,7 +25,7 @@ use Rattle.fields.specs.Cut.{upto, past, has, empty}
 use Rattle.fields.specs.Cut.Laws.{empty-is, has-not, past-none}
 use Rattle.fields.specs.Digits.{digits, number}
 use Rattle.fields.specs.Real.{allowed, valueOf, negatedOf, amountBy, pointedBy, amountOf, unsignedOf, realOf}
-use Rattle.fields.specs.Real.Laws.{no-digits, too-many, not-whole, not-decimals, few-decimals, below-limit}
+use Rattle.fields.specs.Real.Laws.{no-digits, too-many, not-whole, not-decimals, few-decimals, number-small}
 use Rattle.fields.specs.Decimal.{minus, wholes, decimals, numerator, denominator}
 use Rattle.fields.specs.declared.Real.{Real}
 use Rattle.fields.specs.declared.Real.the-variants as Real
@@ -120,9 +120,9 @@ unsigned-written l x h = ⊎-elim (λ q. pointed-written (rw q at h)) plain (dec
     plain : has 46 l ≡ false → Written (upto 46 l) (past 46 l) x
     plain q = rw (has-not 46 l q, past-none 46 l q) (amount-written l [] x (rw q at h))
 
--- its digits are a whole number below 10^15, and its decimals are at most 22
-number-small : (w d : List ℕ) (x : Float) → Written w d x → number (number 0 w) d < 10 ^ 15
-number-small w d x k = below-limit w d (k .few) (number 0 w) (rw (k .whole)) (number (number 0 w) d) (rw (k .rest))
+-- its digits are a whole number below 10^15
+written-small : (w d : List ℕ) (x : Float) → Written w d x → number (number 0 w) d < 10 ^ 15
+written-small w d x k = number-small w d (k .whole) (k .rest) (k .few)
 
 -- so the value is the fraction, rounded once
 written-rounded : (w d : List ℕ) (x : Float) → Written w d x → x ≡ round binary64 false (number (number 0 w) d) (10 ^ length d)
@@ -130,7 +130,7 @@ unfolding ofInt
 written-rounded w d x k =
     k .value
     ∙ div-whole binary64 _ _ (number (number 0 w) d) (10 ^ length d) (one-le-pow (length d) 10 (lit< tt))
-    (round-whole binary64 false (number (number 0 w) d) (omega (arith, number-small w d x k)))
+    (round-whole binary64 false (number (number 0 w) d) (omega (arith, written-small w d x k)))
     (power-exact (length d) (few-decimals w d (k .few)))
 
 -- ---- the field
@@ -162,5 +162,5 @@ pub real-nearest : (l : List ℕ) (x : Float) → realOf l ≡ Real.Value x → 
 real-nearest l x h =
     let v = real-written l x h in
     let b : 1 ≤ denominator l = one-le-pow (length (decimals l)) 10 (lit< tt) in
-    let a : numerator l < 10 ^ 15 = number-small (wholes l) (decimals l) (v .0) (v .1) in
+    let a : numerator l < 10 ^ 15 = written-small (wholes l) (decimals l) (v .0) (v .1) in
     rw (real-rounded l x h) (round-nearest-small (minus l) (numerator l) (denominator l) b (omega arith))
