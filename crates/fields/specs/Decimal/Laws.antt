@@ -124,14 +124,16 @@ unsigned-written l x h = ⊎-elim (λ q. pointed-written (rw q at h)) plain (dec
 written-small : (w d : List ℕ) (x : Float) → Written w d x → number (number 0 w) d < 10 ^ 15
 written-small w d x k = number-small w d (k .whole) (k .rest) (k .few)
 
--- so the value is the fraction, rounded once
-written-rounded : (w d : List ℕ) (x : Float) → Written w d x → x ≡ round binary64 false (number (number 0 w) d) (10 ^ length d)
+-- so it and the power of ten are doubles, and the value is the fraction, rounded once
+written-exact : (w d : List ℕ) (x : Float) → Written w d x
+    → HasValue (double (number (number 0 w) d)) false (number (number 0 w) d) 1 × HasValue (double (10 ^ length d)) false (10 ^ length d) 1
 unfolding ofInt
+written-exact w d x k = (round-whole binary64 false (number (number 0 w) d) (omega (arith, written-small w d x k)), power-exact (length d) (few-decimals w d (k .few)))
+
+written-rounded : (w d : List ℕ) (x : Float) → Written w d x → x ≡ round binary64 false (number (number 0 w) d) (10 ^ length d)
 written-rounded w d x k =
-    k .value
-    ∙ div-whole binary64 _ _ (number (number 0 w) d) (10 ^ length d) (one-le-pow (length d) 10 (lit< tt))
-    (round-whole binary64 false (number (number 0 w) d) (omega (arith, written-small w d x k)))
-    (power-exact (length d) (few-decimals w d (k .few)))
+    let e = written-exact w d x k in
+    k .value ∙ div-whole binary64 _ _ (number (number 0 w) d) (10 ^ length d) (one-le-pow (length d) 10 (lit< tt)) (e .0) (e .1)
 
 -- ---- the field
 
@@ -150,6 +152,11 @@ real-written (b ∷ r) x h = ⊎-elim signed (λ q. (x, rw q (unsigned-written (
 signed-round : (s : Bool) (a b : ℕ) → cond s (neg (round binary64 false a b)) (round binary64 false a b) ≡ round binary64 s a b
 signed-round true a b = neg-round binary64 false a b
 signed-round false a b = refl
+
+-- the two numbers that are divided are doubles
+pub real-exact : (l : List ℕ) (x : Float) → realOf l ≡ Real.Value x
+    → HasValue (double (numerator l)) false (numerator l) 1 × HasValue (double (denominator l)) false (denominator l) 1
+real-exact l x h = let v = real-written l x h in written-exact (wholes l) (decimals l) (v .0) (v .1)
 
 -- the value of a real is its decimal, rounded once
 pub real-rounded : (l : List ℕ) (x : Float) → realOf l ≡ Real.Value x → x ≡ round binary64 (minus l) (numerator l) (denominator l)
