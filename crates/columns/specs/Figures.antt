@@ -10,7 +10,7 @@ use Rattle.real.specs.Tests.{decided, true-false}
 use Rattle.real.specs.Nearest.{NearestDouble}
 use Rattle.fields.specs.Cut.{only, pieces}
 use Rattle.fields.specs.Real.{DigitRule, allowed, orNanBy, orNanOf, isReal, realIn}
-use Rattle.fields.specs.Decimal.{minus, numerator, denominator}
+use Rattle.fields.specs.Decimal.{hasMinus, numerator, denominator}
 use Rattle.fields.specs.Decimal.Laws.{real-nearest}
 use Rattle.fields.specs.declared.Real.{Real}
 use Rattle.fields.specs.declared.Real.the-variants as Real
@@ -57,14 +57,14 @@ module _ (rule : DigitRule) (z : Section) (l : List ℕ) (sound : RowsSound rule
       let row = getD (rowsOf l) k [] in
       rw (cell-field (pieces 32 row) j) (good-read rule (wantOf z j) (getD (fieldsIn row) j []) r (row-sound .good j (rw (row-sound .count) g)))
 
-value-nearest : (f : List ℕ) → only 63 f ≡ false → isReal (orNanOf f) ≡ true → NearestDouble (realIn (orNanOf f)) (minus f) (numerator f) (denominator f)
+value-nearest : (f : List ℕ) → only 63 f ≡ false → isReal (orNanOf f) ≡ true → NearestDouble (realIn (orNanOf f)) (hasMinus f) (numerator f) (denominator f)
 value-nearest f q h = go (orNanOf f) refl h
   where
-    go : (r : Real) → orNanOf f ≡ r → isReal r ≡ true → NearestDouble (realIn r) (minus f) (numerator f) (denominator f)
+    go : (r : Real) → orNanOf f ≡ r → isReal r ≡ true → NearestDouble (realIn r) (hasMinus f) (numerator f) (denominator f)
     go (Real.Value x) e t = real-nearest f x (rw q at e)
     go Real.Wrong e t = absurd (true-false t refl)
 
 -- column j holds in place k the double nearest to what field j of line k writes, where that is not `?`
 pub figure-nearest : (z : Section) (l : List ℕ) → RowsSound allowed z l → (k j : ℕ) → k < rowCount l → j < fieldCount z → Reals (wantOf z j)
-    → let f = cellOf j (getD (rowsOf l) k []) in only 63 f ≡ false → NearestDouble (realField j (getD (rowsOf l) k [])) (minus f) (numerator f) (denominator f)
+    → let f = cellOf j (getD (rowsOf l) k []) in only 63 f ≡ false → NearestDouble (realField j (getD (rowsOf l) k [])) (hasMinus f) (numerator f) (denominator f)
 figure-nearest z l sound k j h g r q = value-nearest (cellOf j (getD (rowsOf l) k [])) q (figure-read allowed z l sound k j h g r)

@@ -10,9 +10,9 @@ use Rattle.fields.specs.Cut.{upto, past}
 use Rattle.fields.specs.Digits.{number}
 
 -- whether it begins with `-`, and what follows that
-abbrev pub minus : List ℕ → Bool
-minus [] = false
-minus (b ∷ r) = eqb b 45
+abbrev pub hasMinus : List ℕ → Bool
+hasMinus [] = false
+hasMinus (b ∷ r) = eqb b 45
 
 abbrev pub bare : List ℕ → List ℕ
 bare [] = []

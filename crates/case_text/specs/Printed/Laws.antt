@@ -16,7 +16,7 @@ use Rattle.fields.specs.Digits.{digits, digitsOf, isNumber}
 use Rattle.real.specs.Nearest.{NearestDouble}
 use Rattle.fields.specs.Cut.{only}
 use Rattle.fields.specs.Real.{allowed}
-use Rattle.fields.specs.Decimal.{minus, numerator, denominator}
+use Rattle.fields.specs.Decimal.{hasMinus, numerator, denominator}
 use Rattle.rows.specs.Asked.{fieldCount, wantOf}
 use Rattle.rows.specs.Rows.{rowsOf}
 use Rattle.rows.specs.Printed.{fieldTable}
@@ -122,7 +122,7 @@ accepted-part s t c Section.Y a = (c .rows .triplets, a .body .triplets)
 -- every figure that is read of an accepted text is the double nearest to the decimal that stands in its line; `?` stands for none
 pub text-figures : (s : List ℕ) (c : Contents) → textOf s ≡ Reading.Good c → (z : Section) (k j : ℕ) → let l = bytesOf z s (trailerStart s) in
     k < rowCount l → j < fieldCount z → Reals (wantOf z j) → let f = cellOf j (getD (rowsOf l) k []) in only 63 f ≡ false
-    → NearestDouble (realField j (getD (rowsOf l) k [])) (minus f) (numerator f) (denominator f)
+    → NearestDouble (realField j (getD (rowsOf l) k [])) (hasMinus f) (numerator f) (denominator f)
 text-figures s c h z k j p g r q =
     let t = trailerStart s in
     let part = accepted-part s t c z (accepted-has s c h) in

@@ -26,7 +26,7 @@ use Rattle.fields.specs.Cut.Laws.{empty-is, has-not, past-none}
 use Rattle.fields.specs.Digits.{digits, number}
 use Rattle.fields.specs.Real.{allowed, valueOf, negatedOf, amountBy, pointedBy, amountOf, unsignedOf, realOf}
 use Rattle.fields.specs.Real.Laws.{no-digits, too-many, not-whole, not-decimals, few-decimals, number-small}
-use Rattle.fields.specs.Decimal.{minus, wholes, decimals, numerator, denominator}
+use Rattle.fields.specs.Decimal.{hasMinus, wholes, decimals, numerator, denominator}
 use Rattle.fields.specs.declared.Real.{Real}
 use Rattle.fields.specs.declared.Real.the-variants as Real
 
@@ -142,7 +142,7 @@ negated-value (Real.Value y) x h = (y, refl, cc)
 negated-value Real.Wrong x h = no-case cc
 
 -- a real's digits, whose value a minus negates
-pub real-written : (l : List ℕ) (x : Float) → realOf l ≡ Real.Value x → (y : Float) × Written (wholes l) (decimals l) y × (x ≡ cond (minus l) (neg y) y)
+pub real-written : (l : List ℕ) (x : Float) → realOf l ≡ Real.Value x → (y : Float) × Written (wholes l) (decimals l) y × (x ≡ cond (hasMinus l) (neg y) y)
 real-written [] x h = no-case cc
 real-written (b ∷ r) x h = ⊎-elim signed (λ q. (x, rw q (unsigned-written (b ∷ r) x (rw q at h)), rw q)) (decided (eqb b 45))
   where
@@ -159,15 +159,15 @@ pub real-exact : (l : List ℕ) (x : Float) → realOf l ≡ Real.Value x
 real-exact l x h = let v = real-written l x h in written-exact (wholes l) (decimals l) (v .0) (v .1)
 
 -- the value of a real is its decimal, rounded once
-pub real-rounded : (l : List ℕ) (x : Float) → realOf l ≡ Real.Value x → x ≡ round binary64 (minus l) (numerator l) (denominator l)
+pub real-rounded : (l : List ℕ) (x : Float) → realOf l ≡ Real.Value x → x ≡ round binary64 (hasMinus l) (numerator l) (denominator l)
 real-rounded l x h =
     let v = real-written l x h in
-    v .2 ∙ ap (λ (y : Float). cond (minus l) (neg y) y) (written-rounded (wholes l) (decimals l) (v .0) (v .1)) ∙ signed-round (minus l) (numerator l) (denominator l)
+    v .2 ∙ ap (λ (y : Float). cond (hasMinus l) (neg y) y) (written-rounded (wholes l) (decimals l) (v .0) (v .1)) ∙ signed-round (hasMinus l) (numerator l) (denominator l)
 
 -- and so it is the double nearest to the decimal that is written, ties to even
-pub real-nearest : (l : List ℕ) (x : Float) → realOf l ≡ Real.Value x → NearestDouble x (minus l) (numerator l) (denominator l)
+pub real-nearest : (l : List ℕ) (x : Float) → realOf l ≡ Real.Value x → NearestDouble x (hasMinus l) (numerator l) (denominator l)
 real-nearest l x h =
     let v = real-written l x h in
     let b : 1 ≤ denominator l = one-le-pow (length (decimals l)) 10 (lit< tt) in
     let a : numerator l < 10 ^ 15 = written-small (wholes l) (decimals l) (v .0) (v .1) in
-    rw (real-rounded l x h) (round-nearest-small (minus l) (numerator l) (denominator l) b (omega arith))
+    rw (real-rounded l x h) (round-nearest-small (hasMinus l) (numerator l) (denominator l) b (omega arith))

@@ -134,9 +134,9 @@ limited-full s i e m h k q =
     let r = slice (i + 1) e s in
     rw (slice-step s i e h k, le-ltb (number (m * 10 + (b - 48)) r) (10 ^ 15) (omega (arith, number-grows (m * 10 + (b - 48)) r)), and-false)
 
-kept : (b : Bool) (x n : ℕ) → cond b (Digits.Number x) Digits.Other ≡ Digits.Number n → (b ≡ true) × (x ≡ n)
-kept true x n h = (refl, cc)
-kept false x n h = no-case cc
+number-kept : (b : Bool) (x n : ℕ) → cond b (Digits.Number x) Digits.Other ≡ Digits.Number n → (b ≡ true) × (x ≡ n)
+number-kept true x n h = (refl, cc)
+number-kept false x n h = no-case cc
 
 lost : (b : Bool) (x : ℕ) → cond b (Digits.Number x) Digits.Other ≡ Digits.Other → b ≡ false
 lost true x h = no-case cc
@@ -151,7 +151,7 @@ module _ (m : ℕ) (l : List ℕ) where
 
   module _ (n : ℕ) (h : limitedOf m l ≡ Digits.Number n) where
     taken : (digits l && small ≡ true) × (number m l ≡ n)
-    taken = kept (digits l && small) (number m l) n h
+    taken = number-kept (digits l && small) (number m l) n h
 
     pub limited-digits : digits l ≡ true
     limited-digits = and-left (digits l) small (taken .0)

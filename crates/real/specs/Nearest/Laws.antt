@@ -20,9 +20,10 @@ use lib.Ieee.Exact.{HasValue, units-val}
 use lib.Ieee.Nearest.{closest}
 use lib.Ieee.Order.{drop, kept, transfer}
 use lib.Ieee.Scale.{grid, overflow}
+use lib.Ieee.Positive.{den}
 use lib.Ieee.Bits.{ofBits-toBits}
 use Rattle.real.specs.Tests.{below-or}
-use Rattle.real.specs.Nearest.{Finite, bottom, apart, distance, NearestDouble}
+use Rattle.real.specs.Nearest.{Finite, apart, distance, NearestDouble}
 
 -- ---- how far two numbers lie apart
 
@@ -190,7 +191,7 @@ apart-mul false true p q c = add-mul p q c
 apart-mul false false p q c = gap-mul p q c
 
 -- the distance of a value of w units, in units
-pub distance-units : (x : Float) (t s : Bool) (a b l w : ℕ) → HasValue x t w l → distance x s a b * l ≡ apart t (w * b) s (a * l) * bottom x
+pub distance-units : (x : Float) (t s : Bool) (a b l w : ℕ) → HasValue x t w l → distance x s a b * l ≡ apart t (w * b) s (a * l) * den x
 distance-units nan t s a b l w h = absurd h
 distance-units (inf r) t s a b l w h = absurd h
 distance-units (fin r m e) t s a b l w h =
@@ -274,7 +275,7 @@ kept-even-bits f x s q k Q E h = elim (eq-or-lt-of-le Q) [
 
 -- ---- the rounded value against another
 
--- two distances in units, and as fractions, each times the other's bottom
+-- two distances in units, and as fractions, each times the other's `den`
 fractions-ahead : (dx dy bx by l ex ey : ℕ) {P : Type 0} → 0 < l → 0 < bx → 0 < by → dx * l ≡ ex * bx → dy * l ≡ ey * by → Ahead ex ey P → Ahead (dx * by) (dy * bx) P
 fractions-ahead dx dy bx by l ex ey L X Y h k z =
     (transfer dx dy bx by ex ey l l L L h k (mul-le-mul-right l (z .0)), λ t. z .1 (le-of-mul-le-mul-right (transfer ey ex l l dy dx by bx Y X (sym k) (sym h) t) L))
@@ -310,14 +311,14 @@ nearest-of-value (fin t m e) s a b B F v = subst (λ (r : Bool). T (fits binary6
     x = fin s m e
 
     here : T (fits binary64 x) → NearestDouble x s a b
-    here G = record { double = G; sign = refl; near = near; even = even }
+    here G = record { finite = G; sign = refl; near = near; even = even }
       where
-        near : (y : Float) → Finite y → distance x s a b * bottom y ≤ distance y s a b * bottom x
+        near : (y : Float) → Finite y → distance x s a b * den y ≤ distance y s a b * den x
         near nan h = absurd h
         near (inf t) h = absurd h
         near (fin t n d) h = rounded-ahead binary64 s m e a b B G (v .1) t n d h .0
 
-        even : (y : Float) → Finite y → distance y s a b * bottom x ≡ distance x s a b * bottom y → (x ≡ y → ⊥) → toBits binary64 x % 2 ≡ 0
+        even : (y : Float) → Finite y → distance y s a b * den x ≡ distance x s a b * den y → (x ≡ y → ⊥) → toBits binary64 x % 2 ≡ 0
         even nan h q other = absurd h
         even (inf t) h q other = absurd h
         even (fin t n d) h q other = elim (rounded-ahead binary64 s m e a b B G (v .1) t n d h .1 (le-of-eq q)) [ inl c ↦ absurd (other c) | inr E ↦ E ]

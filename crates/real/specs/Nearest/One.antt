@@ -4,7 +4,7 @@ use mathlib.Core.Path.{_≡_, sym, ap, _∙_, subst}
 use mathlib.Core.Logic.{inl, inr}
 use mathlib.Core.Bool.{Bool, true, false}
 use Prim.Native.Nat.{ℕ, suc, _-_, _*_, _/_, _%_, _^_, _≤_, _<_}
-use native.Mathlib.Nat.{le-of-eq, le-antisymm, lt-trans, lt-irrefl, lt-of-le-of-lt, lt-of-lt-of-le, lt-suc-self, eq-or-lt-of-le, zero-lt-suc}
+use native.Mathlib.Nat.{le-of-eq, le-antisymm, lt-trans, lt-irrefl, lt-of-le-of-lt, lt-of-lt-of-le, lt-suc-self, eq-or-lt-of-le}
 use native.Mathlib.Nat.{mul-comm, mul-right-comm, mul-lt-mul-of-pos-right, lt-of-mul-lt-mul-right, le-of-mul-le-mul-right, eq-of-mul-eq-mul-right, mul-div-cancel}
 use native.Mathlib.Omega.{arith}
 use lib.IntN.{ℤ}
@@ -16,8 +16,9 @@ use lib.Ieee.Fits.{kept-lt, down-pos, odd-fits}
 use lib.Ieee.Exact.{HasValue, odd-sign}
 use lib.Ieee.Order.{transfer}
 use lib.Ieee.Scale.{overflow}
+use lib.Ieee.Positive.{den, den-pos}
 use Rattle.real.specs.Tests.{below-or}
-use Rattle.real.specs.Nearest.{Finite, minus, bottom, apart, distance, NearestDouble}
+use Rattle.real.specs.Nearest.{Finite, negative, apart, distance, NearestDouble}
 use Rattle.real.specs.Nearest.Laws.{shifted, in-units, distance-units, same-value, times-even, last-bit, drops-zeros}
 
 -- ---- a value in units
@@ -51,7 +52,7 @@ units-of f t s m e h c =
     let whole = z ∙ ap (λ (n : ℕ). n * 2 ^ k) (sym (ap (λ (n : ℕ). n / 2 ^ k) z ∙ mul-div-cancel (m * 2 ^ (j - k)) (pow-pos k))) in
     (w, record { held = h; value = (c, u .2); whole = whole; under = below-overflow f (m * up e) (down e) w (u .2) (u .3) })
 
-double-units : (x : Float) (s : Bool) → Finite x → minus x ≡ s → (w : ℕ) × Units binary64 x s w
+double-units : (x : Float) (s : Bool) → Finite x → negative x ≡ s → (w : ℕ) × Units binary64 x s w
 double-units nan s h c = absurd h
 double-units (inf t) s h c = absurd h
 double-units (fin t m e) s h c = units-of binary64 t s m e h c
@@ -63,10 +64,10 @@ one-size (inf t) s w v l h k = absurd h
 one-size (fin t m e) s w v l h k = eq-of-mul-eq-mul-right (down e) (down-pos e) w v (sym (h .1) ∙ k .1)
 
 -- a double with a value is neither a NaN nor an infinity
-finite : (x : Float) (s : Bool) (w l : ℕ) → T (fits binary64 x) → HasValue x s w l → Finite x
-finite nan s w l h v = absurd v
-finite (inf t) s w l h v = absurd v
-finite (fin t m e) s w l h v = h
+finite-double : (x : Float) (s : Bool) (w l : ℕ) → T (fits binary64 x) → HasValue x s w l → Finite x
+finite-double nan s w l h v = absurd v
+finite-double (inf t) s w l h v = absurd v
+finite-double (fin t m e) s w l h v = h
 
 -- ---- the value between two values with a last bit 0
 
@@ -106,16 +107,11 @@ between f s x y w v X Y E F h =
 
 -- ---- the law
 
-bottom-pos : (x : Float) → 0 < bottom x
-bottom-pos nan = zero-lt-suc 0
-bottom-pos (inf s) = zero-lt-suc 0
-bottom-pos (fin s m e) = down-pos e
-
 -- the order of two distances, in units
-nearer : (x y : Float) (s : Bool) (a b l w v : ℕ) → 0 < l → HasValue x s w l → HasValue y s v l → distance x s a b * bottom y ≤ distance y s a b * bottom x
+nearer : (x y : Float) (s : Bool) (a b l w v : ℕ) → 0 < l → HasValue x s w l → HasValue y s v l → distance x s a b * den y ≤ distance y s a b * den x
     → apart s (w * b) s (a * l) ≤ apart s (v * b) s (a * l)
 nearer x y s a b l w v L h k n =
-    le-of-mul-le-mul-right (transfer _ _ l l (distance x s a b) (distance y s a b) (bottom x) (bottom y) (bottom-pos x) (bottom-pos y)
+    le-of-mul-le-mul-right (transfer _ _ l l (distance x s a b) (distance y s a b) (den x) (den y) (den-pos x) (den-pos y)
     (sym (distance-units x s s a b l w h)) (sym (distance-units y s s a b l v k)) n) L
 
 -- what lies between two numbers that are equally far from c is nearer to c
@@ -128,21 +124,21 @@ no-smaller : (x y : Float) (s : Bool) (a b w v : ℕ) → 0 < b → NearestDoubl
 no-smaller x y s a b w v B N M X Y h =
     let l = 2 ^ low binary64 in
     let L = pow-pos (low binary64) in
-    let xy = N .near y (M .double) in
-    let yx = M .near x (N .double) in
+    let xy = N .near y (M .finite) in
+    let yx = M .near x (N .finite) in
     let other : x ≡ y → ⊥ = λ e. lt-irrefl v (subst (λ (n : ℕ). n < v) (one-size x s w v l (X .value) (subst (λ (z : Float). HasValue z s v l) (sym e) (Y .value))) h) in
-    let m = between binary64 s x y w v X Y (N .even y (M .double) (le-antisymm yx xy) other) (M .even x (N .double) (le-antisymm xy yx) (λ e. other (sym e))) h in
+    let m = between binary64 s x y w v X Y (N .even y (M .finite) (le-antisymm yx xy) other) (M .even x (N .finite) (le-antisymm xy yx) (λ e. other (sym e))) h in
     let z = m .0 in
     let u = m .1 in
     middle-nearer s (w * b) (u * b) (v * b) (a * l) (mul-lt-mul-of-pos-right (m .4) B) (mul-lt-mul-of-pos-right (m .5) B)
     (nearer x y s a b l w v L (X .value) (Y .value) xy)
     (nearer y x s a b l v w L (Y .value) (X .value) yx)
-    (nearer x z s a b l w u L (X .value) (m .3) (N .near z (finite z s u l (m .2) (m .3))))
+    (nearer x z s a b l w u L (X .value) (m .3) (N .near z (finite-double z s u l (m .2) (m .3))))
 
 pub nearest-one : (x y : Float) (s : Bool) (a b : ℕ) → 0 < b → NearestDouble x s a b → NearestDouble y s a b → x ≡ y
 nearest-one x y s a b B N M =
-    let X = double-units x s (N .double) (N .sign) in
-    let Y = double-units y s (M .double) (M .sign) in
+    let X = double-units x s (N .finite) (N .sign) in
+    let Y = double-units y s (M .finite) (M .sign) in
     let w = X .0 in
     let v = Y .0 in
     elim (below-or w v) [
