@@ -6,6 +6,7 @@ ghost use Rattle.real.specs.First.{firstBelow};
 ghost use Rattle.network.specs.Network.{busesOf, slacksOf, generatorsOf, branchesOf, tripletsOf, networkOf, fitsOf};
 ghost use Rattle.network.specs.Checks.{same3, same7, busesCounted, slacksCounted, generatorsCounted, branchesCounted, tripletsCounted};
 ghost use Rattle.network.specs.Checks.{counted};
+ghost use Rattle.network.specs.BranchTable.{valuesOf, valuesCounted};
 ghost use Rattle.network.specs.Missing.{busMissing, endMissing, inColumn, firstField, inEnds, orNext, missingBy};
 
 // A number of rows for each table.
@@ -129,6 +130,36 @@ pub fn counted(
     let l = branches_counted(br_from, br_to);
     let y = triplets_counted(y_row, y_col, y_re, y_im);
     real::and(b, real::and(r, real::and(g, real::and(l, y))))
+}
+
+// The same of the nine columns of numbers beside the ends of n branches.
+pub fn values_counted(
+    n: usize,
+    g: &[f64],
+    b: &[f64],
+    g_fr: &[f64],
+    b_fr: &[f64],
+    g_to: &[f64],
+    b_to: &[f64],
+    tap: &[f64],
+    shift: &[f64],
+    sw: &[f64],
+) -> bool
+    ensures { λ r. ⌜ r ≡ valuesCounted n
+        (valuesOf (now (g .entry)) (now (b .entry)) (now («g_fr» .entry)) (now («b_fr» .entry)) (now («g_to» .entry)) (now («b_to» .entry)) (now (tap .entry))
+        (now (shift .entry)) (now (sw .entry))) ⌝ }
+{
+    let same = equal7(
+        n,
+        g.len(),
+        b.len(),
+        g_fr.len(),
+        b_fr.len(),
+        g_to.len(),
+        b_to.len(),
+        tap.len(),
+    );
+    real::and(same, real::and(shift.len() == n, sw.len() == n))
 }
 
 // ---- refusals 8, 11, 12 and 13: a row that names a bus which is not there

@@ -93,7 +93,7 @@ well-indexed t h k =
 
 -- ---- tables of those sizes pass
 
-sized-counted : (t : Network) → SizedBuses (t .buses) → SizedSlacks (t .slacks) → SizedGenerators (t .generators) → SizedBranches (t .branches)
+pub sized-counted : (t : Network) → SizedBuses (t .buses) → SizedSlacks (t .slacks) → SizedGenerators (t .generators) → SizedBranches (t .branches)
     → SizedTriplets (t .triplets) → counted t ≡ true
 unfolding counted both
 sized-counted t b r g l y = rw (
@@ -130,7 +130,7 @@ one-length : {A B : Type 0} (n : ℕ) (k : List A) (l : List B) → n ≤ length
 one-length n k l h i = length-take-le n l i ∙ sym (length-take-le n k h)
 
 module _ (n : ℕ) where
-  sized-first-buses : (t : Buses) → n ≤ 32 → RoomBuses n t → SizedBuses (firstBuses n t)
+  pub sized-first-buses : (t : Buses) → n ≤ 32 → RoomBuses n t → SizedBuses (firstBuses n t)
   sized-first-buses t few h =
       record {
         few = rw (length-take-le n (t .kind) (h .kind)) few;
@@ -143,14 +143,14 @@ module _ (n : ℕ) where
         va-case = one-length n (t .kind) (t .va-case) (h .kind) (h .va-case);
       }
 
-  sized-first-slacks : (t : Slacks) → n ≤ 32 → RoomSlacks n t → SizedSlacks (firstSlacks n t)
+  pub sized-first-slacks : (t : Slacks) → n ≤ 32 → RoomSlacks n t → SizedSlacks (firstSlacks n t)
   sized-first-slacks t few h =
       record {
         few = rw (length-take-le n (t .bus) (h .bus)) few;
         angle = one-length n (t .bus) (t .angle) (h .bus) (h .angle);
       }
 
-  sized-first-generators : (t : Generators) → n ≤ 32 → RoomGenerators n t → SizedGenerators (firstGenerators n t)
+  pub sized-first-generators : (t : Generators) → n ≤ 32 → RoomGenerators n t → SizedGenerators (firstGenerators n t)
   sized-first-generators t few h =
       record {
         few = rw (length-take-le n (t .bus) (h .bus)) few;
@@ -158,7 +158,7 @@ module _ (n : ℕ) where
         qmax = one-length n (t .bus) (t .qmax) (h .bus) (h .qmax);
       }
 
-  sized-first-branches : (t : Branches) → n ≤ 64 → RoomBranches n t → SizedBranches (firstBranches n t)
+  pub sized-first-branches : (t : Branches) → n ≤ 64 → RoomBranches n t → SizedBranches (firstBranches n t)
   sized-first-branches t few h =
       record {
         few = rw (length-take-le n (t .from) (h .from)) few;

@@ -14,17 +14,21 @@ use Rattle.network.specs.Network.{RoomBuses, RoomSlacks, RoomGenerators,
 
 -- ---- at most the shortest column is at most each
 
-under2 : (n a b : ℕ) → n ≤ min a b → (n ≤ a) × (n ≤ b)
+pub under2 : (n a b : ℕ) → n ≤ min a b → (n ≤ a) × (n ≤ b)
 under2 n a b h = omega arith
 
 under4 : (n a b c d : ℕ) → n ≤ min (min a b) (min c d) → ((n ≤ a) × (n ≤ b)) × ((n ≤ c) × (n ≤ d))
 under4 n a b c d h = let u = under2 n (min a b) (min c d) h in (under2 n a b (u .0), under2 n c d (u .1))
 
+pub under8 : (n a b c d e f g h : ℕ) → n ≤ min (min (min a b) (min c d)) (min (min e f) (min g h))
+    → (((n ≤ a) × (n ≤ b)) × ((n ≤ c) × (n ≤ d))) × (((n ≤ e) × (n ≤ f)) × ((n ≤ g) × (n ≤ h)))
+under8 n a b c d e f g h k = let u = under2 n _ _ k in (under4 n a b c d (u .0), under4 n e f g h (u .1))
+
 pub room-buses : (n : ℕ) (t : Buses) → n ≤ busesRoom t → RoomBuses n t
 room-buses n t h =
-    let u = under2 n _ _ h in
-    let f = under4 n _ _ _ _ (u .0) in
-    let b = under4 n _ _ _ _ (u .1) in
+    let u = under8 n _ _ _ _ _ _ _ _ h in
+    let f = u .0 in
+    let b = u .1 in
     record { kind = f .0 .0; vm-set = f .0 .1; pd = f .1 .0; qd = f .1 .1; pg = b .0 .0; qg = b .0 .1; vm-case = b .1 .0; va-case = b .1 .1 }
 
 pub room-slacks : (n : ℕ) (t : Slacks) → n ≤ slacksRoom t → RoomSlacks n t
