@@ -4,17 +4,18 @@ ghost use Prim.Native.Nat.{_≤_};
 ghost use lib.ListN.{length};
 ghost use lib.Seq.{slice};
 ghost use Rattle.fields.specs.Cut.{pieces};
-ghost use Rattle.rows.specs.Asked.{sectionLetter, fieldCount, sizeOf, wantOf, goodOf};
+ghost use Rattle.rows.specs.Asked.{sectionLetter, fieldCount, sizeOf, endsFirst, wantOf, goodOf};
 ghost use Rattle.rows.specs.Line.{spacedOf, formOf, fieldsOf, lineOf};
 ghost use Rattle.rows.specs.Rows.{checkOf};
 
-// The sections of a case text.
+// The sections of a case text, of either edition.
 pub enum Section {
     B,
     R,
     G,
     L,
     Y,
+    K,
 }
 
 // What a field holds: a real, a real or `?`, a bus number, a kind.
@@ -42,6 +43,7 @@ fn letter(z: Section) -> u8
         Section::G => b'G',
         Section::L => b'L',
         Section::Y => b'Y',
+        Section::K => b'K',
     }
 }
 
@@ -54,6 +56,7 @@ fn count(z: Section) -> usize
         Section::G => 3,
         Section::L => 2,
         Section::Y => 4,
+        Section::K => 11,
     }
 }
 
@@ -66,7 +69,18 @@ fn size(z: Section) -> usize
         Section::G => 32,
         Section::L => 64,
         Section::Y => 256,
+        Section::K => 64,
     }
+}
+
+// Of a line that begins with two bus numbers.
+fn ends_first(j: usize) -> Want
+    ensures { λ r. ⌜ r ≡ endsFirst j ⌝ }
+{
+    if 2 <= j {
+        return Want::Plain;
+    }
+    Want::Bus
 }
 
 // What field j holds, counted from 0.
@@ -96,12 +110,8 @@ fn wanted(z: Section, j: usize) -> Want
             Want::Plain
         }
         Section::L => Want::Bus,
-        Section::Y => {
-            if 2 <= j {
-                return Want::Plain;
-            }
-            Want::Bus
-        }
+        Section::Y => ends_first(j),
+        Section::K => ends_first(j),
     }
 }
 

@@ -47,6 +47,7 @@ no-fields Section.R f = and-false (only 82 f)
 no-fields Section.G f = and-false (only 71 f)
 no-fields Section.L f = and-false (only 76 f)
 no-fields Section.Y f = and-false (only 89 f)
+no-fields Section.K f = and-false (only 75 f)
 
 -- where the form is good the fields start two bytes behind the line's start
 module _ (s : List ℕ) (a e : ℕ) (z : Section) (h : a ≤ e) (k : e ≤ length s) (g : formOf z (pieces 32 (slice a e s)) ≡ true) where
