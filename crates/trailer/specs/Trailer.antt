@@ -1,7 +1,8 @@
--- 01: "The trailer is the last 38 bytes: `F` (flat) or `C` (case start), then six times a space and five digits, then LF." It starts at the place t.
--- What holds of any count of groups is said of k groups; 01's count stands in `groups` alone.
+-- 01: "The trailer is the last 38 bytes: `F` (flat) or `C` (case start), then six times a space and five digits, then LF." 02, Ask 3, of the second
+-- edition: "a small `f` or `c` and five starts (B, R, G, K, itself), 32 bytes in all". It starts at the place t. What holds of any count of groups is said of k
+-- groups; the editions' counts stand in `groupsOf` alone.
 pub mod Laws
-use Prim.Native.Nat.{ℕ, zero, suc, _+_, _-_, _*_}
+use Prim.Native.Nat.{ℕ, zero, suc, _+_, _-_, _*_, _<_}
 use mathlib.Core.Bool.{Bool, cond, _&&_, _||_}
 use mathlib.Core.List.{List}
 use lib.Dec.{eqb, leb}
@@ -12,25 +13,28 @@ use Rattle.fields.specs.declared.Digits.{Digits}
 use Rattle.fields.specs.declared.Digits.the-variants as Digits
 use Rattle.rows.specs.declared.Section.{Section}
 use Rattle.rows.specs.declared.Section.the-variants as Section
+use Rattle.trailer.specs.declared.Edition.{Edition}
+use Rattle.trailer.specs.declared.Edition.the-variants.{First, Second}
 use Rattle.trailer.specs.declared.Places.{Places}
 use Rattle.starts.specs.declared.AcStart.{AcStart}
 use Rattle.starts.specs.declared.AcStart.the-variants.{Flat, Case}
 
--- "six times a space and five digits"
-abbrev pub groups : ℕ
-groups = 6
+-- "six times a space and five digits"; "five starts"
+abbrev pub groupsOf : Edition → ℕ
+groupsOf First = 6
+groupsOf Second = 5
 
 -- the bytes of a trailer of k groups: its flag, k times a space and five digits, LF
 abbrev pub widthOf : ℕ → ℕ
 widthOf k = 1 + 6 * k + 1
 
--- "the last 38 bytes"
-abbrev pub trailerLength : ℕ
-trailerLength = widthOf groups
+-- "the last 38 bytes"; "32 bytes in all"
+abbrev pub trailerLength : Edition → ℕ
+trailerLength e = widthOf (groupsOf e)
 
--- "the length less 38"
-abbrev pub trailerStart : List ℕ → ℕ
-trailerStart s = length s - trailerLength
+-- "the length less 38"; "the length less 32"
+abbrev pub trailerStart : Edition → List ℕ → ℕ
+trailerStart e s = length s - trailerLength e
 
 -- "a space and five digits", at a place
 abbrev pub groupAt : List ℕ → ℕ → Digits
@@ -49,28 +53,54 @@ unfoldable pub risingOf : ℕ → List ℕ → ℕ → ℕ → ℕ → Bool
 risingOf zero s at low end = eqb low end
 risingOf (suc k) s at low end = isNumber (groupAt s at) && (leb low (startAt s at) && risingOf k s (at + 6) (startAt s at) end)
 
--- "`F` (flat) or `C` (case start)"
-abbrev pub flagged : ℕ → Bool
-flagged b = eqb b 70 || eqb b 67
+-- "`F` (flat) or `C` (case start)"; "a small `f` or `c`"
+abbrev pub flatLetter : Edition → ℕ
+flatLetter First = 70
+flatLetter Second = 102
 
-abbrev pub modeOf : ℕ → AcStart
-modeOf b = cond (eqb b 70) Flat Case
+abbrev pub caseLetter : Edition → ℕ
+caseLetter First = 67
+caseLetter Second = 99
+
+abbrev pub flagged : Edition → ℕ → Bool
+flagged e b = eqb b (flatLetter e) || eqb b (caseLetter e)
+
+abbrev pub modeOf : Edition → ℕ → AcStart
+modeOf e b = cond (eqb b (flatLetter e)) Flat Case
+
+-- "The byte 32 from the end decides: `f` or `c` there means this edition."
+unfoldable pub editionOf : List ℕ → Edition
+editionOf s = cond (leb (trailerLength Second) (length s) && flagged Second (getD s (trailerStart Second s) 0)) Second First
 
 -- behind the flag at t stand k groups, "then LF"; "the first is 0, they never fall, the last is the length less 38", which is t
 abbrev pub trailerBy : ℕ → List ℕ → ℕ → Bool
 trailerBy k s t = eqb (getD s (t + 1 + 6 * k) 0) 10 && (eqb (groupNumber s t 0) 0 && risingOf k s (t + 1) 0 t)
 
--- 01's trailer; "a break of any of these rules is refusal 2"
-unfoldable pub trailerOf : List ℕ → ℕ → Bool
-trailerOf s t = flagged (getD s t 0) && trailerBy groups s t
+-- an edition's trailer; "a break of any of these rules is refusal 2"
+unfoldable pub trailerOf : Edition → List ℕ → ℕ → Bool
+trailerOf e s t = flagged e (getD s t 0) && trailerBy (groupsOf e) s t
 
--- "the numbers are the starts of B, R, G, L, Y and of the trailer": which of them is a section's, counted from 0
+-- "the numbers are the starts of B, R, G, L, Y and of the trailer"; "five starts (B, R, G, K, itself)": which of them is a section's, counted from 0
 abbrev pub indexOf : Section → ℕ
 indexOf Section.B = 0
 indexOf Section.R = 1
 indexOf Section.G = 2
 indexOf Section.L = 3
 indexOf Section.Y = 4
+indexOf Section.K = 3
+
+-- the section behind G, and the last one
+abbrev pub behindG : Edition → Section
+behindG First = Section.L
+behindG Second = Section.K
+
+abbrev pub lastOf : Edition → Section
+lastOf First = Section.Y
+lastOf Second = Section.K
+
+-- an edition's trailer has a section's start, and behind it another number
+abbrev pub Starts : Edition → Section → Type 0
+Starts e z = indexOf z + 1 < groupsOf e
 
 -- a section's bytes stand from its start up to the next start
 abbrev pub sectionStart : Section → List ℕ → ℕ → ℕ
@@ -79,14 +109,14 @@ sectionStart z s t = groupNumber s t (indexOf z)
 abbrev pub sectionEnd : Section → List ℕ → ℕ → ℕ
 sectionEnd z s t = groupNumber s t (indexOf z + 1)
 
-abbrev pub placesOf : List ℕ → ℕ → Places
-placesOf s t = record {
+abbrev pub placesOf : Edition → List ℕ → ℕ → Places
+placesOf e s t = record {
   b = sectionStart Section.B s t;
   r = sectionStart Section.R s t;
   g = sectionStart Section.G s t;
-  l = sectionStart Section.L s t;
-  y = sectionStart Section.Y s t;
-  t = sectionEnd Section.Y s t;
+  lines = sectionStart (behindG e) s t;
+  triplets = sectionEnd (behindG e) s t;
+  t = sectionEnd (lastOf e) s t;
 }
 
 unfoldable pub bytesOf : Section → List ℕ → ℕ → List ℕ

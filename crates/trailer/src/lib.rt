@@ -1,27 +1,86 @@
-// The trailer of a case text: which start it asks for, and where its sections stand.
+// The trailer of a case text: of which edition the text is, which start it asks for, and where its sections stand.
 use fields::Digits;
 use rows::Section;
 use starts::AcStart;
 ghost use mathlib.Core.Path.{_≡_};
 ghost use Prim.Native.Nat.{_+_, _*_, _≤_, _<_};
 ghost use lib.ListN.{length};
-ghost use Rattle.trailer.specs.Trailer.{groups, widthOf, trailerLength, trailerStart, groupAt, startAt, groupNumber, risingOf, flagged, modeOf, trailerBy, trailerOf, indexOf, sectionStart, sectionEnd, placesOf};
+ghost use Rattle.trailer.specs.Trailer.{groupsOf, widthOf, trailerLength, trailerStart, groupAt, startAt, groupNumber, risingOf, flatLetter, caseLetter, flagged, modeOf, editionOf};
+ghost use Rattle.trailer.specs.Trailer.{trailerBy, trailerOf, indexOf, behindG, lastOf, sectionStart, sectionEnd, placesOf};
 
-// The groups of a trailer.
-pub const GROUPS: usize = 6;
+// The editions of the case text: with lines and triplets, and with branches.
+pub enum Edition {
+    First,
+    Second,
+}
 
-// The bytes of a trailer: its flag, its groups of six bytes each, and LF.
-pub const LENGTH: usize = 1 + 6 * GROUPS + 1;
-
-// Where the sections start, and the trailer.
+// Where the sections start, and the trailer: B, R, G, then the lines L or K, then the triplets Y, of which the second edition has none.
 pub struct Places {
     pub b: usize,
     pub r: usize,
     pub g: usize,
-    pub l: usize,
-    pub y: usize,
+    pub lines: usize,
+    pub triplets: usize,
     pub t: usize,
 }
+
+// ---- what the editions differ in
+
+// The groups of a trailer.
+fn groups(e: Edition) -> usize
+    ensures { λ r. ⌜ (r ≡ groupsOf e) × (0 < r) × (r ≤ 6) ⌝ }
+{
+    match e {
+        Edition::First => 6,
+        Edition::Second => 5,
+    }
+}
+
+// The bytes of a trailer: its flag, its groups of six bytes each, and LF.
+pub fn width(e: Edition) -> usize
+    ensures { λ r. ⌜ r ≡ trailerLength e ⌝ }
+{
+    1 + 6 * groups(e) + 1
+}
+
+fn flat_letter(e: Edition) -> u8
+    ensures { λ r. ⌜ r ≡ flatLetter e ⌝ }
+{
+    match e {
+        Edition::First => b'F',
+        Edition::Second => b'f',
+    }
+}
+
+fn case_letter(e: Edition) -> u8
+    ensures { λ r. ⌜ r ≡ caseLetter e ⌝ }
+{
+    match e {
+        Edition::First => b'C',
+        Edition::Second => b'c',
+    }
+}
+
+// The section behind G.
+pub fn behind_g(e: Edition) -> Section
+    ensures { λ r. ⌜ r ≡ behindG e ⌝ }
+{
+    match e {
+        Edition::First => Section::L,
+        Edition::Second => Section::K,
+    }
+}
+
+fn last(e: Edition) -> Section
+    ensures { λ r. ⌜ r ≡ lastOf e ⌝ }
+{
+    match e {
+        Edition::First => Section::Y,
+        Edition::Second => Section::K,
+    }
+}
+
+// ---- the trailer
 
 // A space and five digits.
 fn group(s: &[u8], at: usize) -> Digits
@@ -99,22 +158,36 @@ fn rising(s: &[u8], at: usize, n: usize, end: usize) -> bool
     low == end
 }
 
-fn is_flag(b: u8) -> bool
-    ensures { λ r. ⌜ r ≡ flagged b ⌝ }
+fn is_flag(b: u8, e: Edition) -> bool
+    ensures { λ r. ⌜ r ≡ flagged e b ⌝ }
 {
-    if b == b'F' {
+    if b == flat_letter(e) {
         return true;
     }
-    b == b'C'
+    b == case_letter(e)
 }
 
-pub fn mode(b: u8) -> AcStart
-    ensures { λ r. ⌜ r ≡ modeOf b ⌝ }
+pub fn mode(b: u8, e: Edition) -> AcStart
+    ensures { λ r. ⌜ r ≡ modeOf e b ⌝ }
 {
-    if b == b'F' {
+    if b == flat_letter(e) {
         return AcStart::Flat;
     }
     AcStart::Case
+}
+
+// Which edition a text is of: the second where the byte at which its trailer would start is one of its letters.
+pub fn edition_of(s: &[u8]) -> Edition
+    ensures { λ r. ⌜ r ≡ editionOf (now (s .entry)) ⌝ }
+{
+    let n = s.len();
+    let w = width(Edition::Second);
+    if w <= n {
+        if is_flag(s[n - w], Edition::Second) {
+            return Edition::Second;
+        }
+    }
+    Edition::First
 }
 
 // Whether k groups and LF stand behind the flag at t, the first number 0, none below the one before, and the last t.
@@ -130,20 +203,22 @@ fn is_trailer_by(s: &[u8], t: usize, k: usize) -> bool
     false
 }
 
-// Whether a trailer stands from t on.
-pub fn is_trailer(s: &[u8], t: usize) -> bool
-    requires { ⌜ t + trailerLength ≤ length (now s) ⌝ }
-    ensures { λ r. ⌜ r ≡ trailerOf (now (s .entry)) t ⌝ }
+// Whether an edition's trailer stands from t on.
+pub fn is_trailer(s: &[u8], t: usize, e: Edition) -> bool
+    requires { ⌜ t + trailerLength e ≤ length (now s) ⌝ }
+    ensures { λ r. ⌜ r ≡ trailerOf e (now (s .entry)) t ⌝ }
 {
-    if is_flag(s[t]) {
-        return is_trailer_by(s, t, GROUPS);
+    if is_flag(s[t], e) {
+        return is_trailer_by(s, t, groups(e));
     }
     false
 }
 
-// Which group has a section's start, counted from 0. It is not the last one.
+// ---- where the sections stand
+
+// Which group has a section's start, counted from 0.
 fn index(z: Section) -> usize
-    ensures { λ r. ⌜ (r ≡ indexOf z) × (r + 1 < groups) ⌝ }
+    ensures { λ r. ⌜ (r ≡ indexOf z) × (r < 5) ⌝ }
 {
     match z {
         Section::B => 0,
@@ -151,12 +226,13 @@ fn index(z: Section) -> usize
         Section::G => 2,
         Section::L => 3,
         Section::Y => 4,
+        Section::K => 3,
     }
 }
 
 // Where a section starts.
 pub fn start_of(s: &[u8], t: usize, z: Section) -> usize
-    requires { ⌜ t + trailerLength ≤ length (now s) ⌝ }
+    requires { ⌜ t + 1 + 6 * (indexOf z + 2) ≤ length (now s) ⌝ }
     ensures { λ r. ⌜ r ≡ sectionStart z (now (s .entry)) t ⌝ }
 {
     group_number(s, t, index(z))
@@ -164,24 +240,25 @@ pub fn start_of(s: &[u8], t: usize, z: Section) -> usize
 
 // Where a section ends: at the next start.
 pub fn end_of(s: &[u8], t: usize, z: Section) -> usize
-    requires { ⌜ t + trailerLength ≤ length (now s) ⌝ }
+    requires { ⌜ t + 1 + 6 * (indexOf z + 2) ≤ length (now s) ⌝ }
     ensures { λ r. ⌜ r ≡ sectionEnd z (now (s .entry)) t ⌝ }
 {
     group_number(s, t, index(z) + 1)
 }
 
-// Where the sections of a good text start, and its trailer.
-pub fn section_places(s: &[u8]) -> Places
-    requires { ⌜ trailerLength ≤ length (now s) ⌝ }
-    ensures { λ r. ⌜ r ≡ placesOf (now (s .entry)) (trailerStart (now (s .entry))) ⌝ }
+// Where the sections of a good text of an edition start, and its trailer.
+pub fn section_places(s: &[u8], e: Edition) -> Places
+    requires { ⌜ trailerLength e ≤ length (now s) ⌝ }
+    ensures { λ r. ⌜ r ≡ placesOf e (now (s .entry)) (trailerStart e (now (s .entry))) ⌝ }
 {
-    let t = s.len() - LENGTH;
+    let t = s.len() - width(e);
+    let z = behind_g(e);
     Places {
         b: start_of(s, t, Section::B),
         r: start_of(s, t, Section::R),
         g: start_of(s, t, Section::G),
-        l: start_of(s, t, Section::L),
-        y: start_of(s, t, Section::Y),
-        t: end_of(s, t, Section::Y),
+        lines: start_of(s, t, z),
+        triplets: end_of(s, t, z),
+        t: end_of(s, t, last(e)),
     }
 }

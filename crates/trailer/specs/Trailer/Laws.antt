@@ -1,14 +1,14 @@
 -- The turns of the loop over a trailer's groups; what a good trailer of k groups says, and that its numbers rise to its own start; where the
--- sections of 01's lie. Assumes nothing.
+-- sections lie; and that a text of the second edition has no first-edition trailer. Assumes nothing.
 use mathlib.Core.Path.{_≡_, refl, sym, _∙_}
-use mathlib.Core.Bool.{true, false}
+use mathlib.Core.Bool.{true, false, and-false}
 use mathlib.Core.List.{List}
 use Prim.Native.Nat.{ℕ, zero, suc, _+_, _-_, _*_, _≤_, _<_}
 use native.Mathlib.Nat.{add-zero}
 use native.Mathlib.Numerals.{add-one}
 use native.Mathlib.Omega.{arith}
 use lib.Dec.{eqb, leb}
-use lib.ListN.{getD}
+use lib.ListN.{length, getD}
 use borrow.Author.Tests.{eqb-true, leb-true, le-leb, lt-leb}
 use Rattle.real.specs.Tests.{and-left, and-right}
 use Rattle.fields.specs.Digits.{isNumber}
@@ -16,7 +16,9 @@ use Rattle.fields.specs.declared.Digits.{Digits}
 use Rattle.fields.specs.declared.Digits.the-variants as Digits
 use Rattle.rows.specs.declared.Section.{Section}
 use Rattle.rows.specs.declared.Section.the-variants as Section
-use Rattle.trailer.specs.Trailer.{groups, groupAt, startAt, groupNumber, risingOf, flagged, trailerBy, trailerOf, indexOf, sectionStart, sectionEnd}
+use Rattle.trailer.specs.Trailer.{groupsOf, trailerLength, trailerStart, groupAt, startAt, groupNumber, risingOf, flagged, editionOf, trailerBy, trailerOf, indexOf, behindG, lastOf, Starts, sectionStart, sectionEnd}
+use Rattle.trailer.specs.declared.Edition.{Edition}
+use Rattle.trailer.specs.declared.Edition.the-variants.{First, Second}
 
 -- ---- the loop over the groups
 
@@ -116,27 +118,63 @@ rising k s t w = record {
     from : (j : ℕ) → j < k → risingOf (k - (j + 1)) s (t + 1 + 6 * (j + 1)) (groupNumber s t j) t ≡ true
     from j h = groups-behind k j s (t + 1) 0 t (w .groups-rise) h
 
--- ---- 01's trailer
+-- ---- an edition's trailer
 
-module _ (s : List ℕ) (t : ℕ) (h : trailerOf s t ≡ true) where
-  pub good-trailer : GoodTrailer groups s t
+module _ (e : Edition) (s : List ℕ) (t : ℕ) (h : trailerOf e s t ≡ true) where
+  pub good-trailer : GoodTrailer (groupsOf e) s t
   unfolding trailerOf
-  good-trailer = behind-flag groups s t (and-right (flagged (getD s t 0)) _ h)
+  good-trailer = behind-flag (groupsOf e) s t (and-right (flagged e (getD s t 0)) _ h)
 
--- a section's group is not the last
-index-below : (z : Section) → indexOf z + 1 < groups
-index-below Section.B = omega arith
-index-below Section.R = omega arith
-index-below Section.G = omega arith
-index-below Section.L = omega arith
-index-below Section.Y = omega arith
+-- the sections that both editions have, the one behind G and the last one have their starts in the trailer
+pub starts-B : (e : Edition) → Starts e Section.B
+starts-B First = omega arith
+starts-B Second = omega arith
+
+pub starts-R : (e : Edition) → Starts e Section.R
+starts-R First = omega arith
+starts-R Second = omega arith
+
+pub starts-G : (e : Edition) → Starts e Section.G
+starts-G First = omega arith
+starts-G Second = omega arith
+
+pub starts-behind-G : (e : Edition) → Starts e (behindG e)
+starts-behind-G First = omega arith
+starts-behind-G Second = omega arith
+
+pub starts-last : (e : Edition) → Starts e (lastOf e)
+starts-last First = omega arith
+starts-last Second = omega arith
+
+-- G ends where the section behind it starts
+pub G-meets : (e : Edition) (s : List ℕ) (t : ℕ) → sectionEnd Section.G s t ≡ sectionStart (behindG e) s t
+G-meets First s t = refl
+G-meets Second s t = refl
 
 -- where each section lies
 pub record Within (a e n : ℕ) : Type 0 where
   pub ordered : a ≤ e
   pub inside : e ≤ n
 
-pub within : (s : List ℕ) (t : ℕ) → trailerOf s t ≡ true → (z : Section) → Within (sectionStart z s t) (sectionEnd z s t) t
-within s t h z =
-    let w = rising groups s t (good-trailer s t h) in
-    record { ordered = w .never-fall (indexOf z) (index-below z); inside = w .inside (indexOf z + 1) (index-below z) }
+pub within : (e : Edition) (s : List ℕ) (t : ℕ) → trailerOf e s t ≡ true → (z : Section) → Starts e z → Within (sectionStart z s t) (sectionEnd z s t) t
+within e s t h z b =
+    let w = rising (groupsOf e) s t (good-trailer e s t h) in
+    record { ordered = w .never-fall (indexOf z) b; inside = w .inside (indexOf z + 1) b }
+
+-- ---- which edition
+
+module _ (s : List ℕ) where
+  abbrev letter : ℕ
+  letter = getD s (trailerStart Second s) 0
+
+  pub edition-second : trailerLength Second ≤ length s → flagged Second letter ≡ true → editionOf s ≡ Second
+  unfolding editionOf
+  edition-second h f = rw (le-leb _ _ h, f)
+
+  pub edition-unflagged : flagged Second letter ≡ false → editionOf s ≡ First
+  unfolding editionOf
+  edition-unflagged f = rw (f, and-false (leb (trailerLength Second) (length s)))
+
+  pub edition-short : length s < trailerLength Second → editionOf s ≡ First
+  unfolding editionOf
+  edition-short h = rw (lt-leb _ _ h)
