@@ -9,6 +9,7 @@ use Rattle.fields.specs.Cut.{pieces}
 use Rattle.fields.specs.Digits.{busOf, numberIn}
 use Rattle.fields.specs.Real.{DigitRule, allowed, orNanBy, realIn}
 use Rattle.rows.specs.Rows.{rowsOf}
+use Rattle.network.specs.BranchTable.{BranchTable, valuesOf, branchTableOf}
 use Rattle.network.specs.Network.{Buses, Slacks, Generators, Branches, Triplets, busesOf, slacksOf, generatorsOf, branchesOf, tripletsOf}
 
 abbrev pub rowCount : List ℕ → ℕ
@@ -39,6 +40,9 @@ filled f l old = sets old 0 (columnOf f l)
 
 -- ---- each table, of its section's bytes: column j holds field j
 
+abbrev pub filledBranches : List ℕ → Branches → Branches
+filledBranches l t = branchesOf (filled (numberField 0) l (t .from)) (filled (numberField 1) l (t .to))
+
 module _ (rule : DigitRule) where
   abbrev pub busesBy : List ℕ → Buses → Buses
   busesBy l t =
@@ -55,8 +59,12 @@ module _ (rule : DigitRule) where
   tripletsBy l t =
       tripletsOf (filled (numberField 0) l (t .row)) (filled (numberField 1) l (t .col)) (filled (realFieldBy rule 2) l (t .re)) (filled (realFieldBy rule 3) l (t .im))
 
-abbrev pub filledBranches : List ℕ → Branches → Branches
-filledBranches l t = branchesOf (filled (numberField 0) l (t .from)) (filled (numberField 1) l (t .to))
+  abbrev pub branchTableBy : List ℕ → BranchTable → BranchTable
+  branchTableBy l t =
+      let real : ℕ → List Float → List Float = λ j old. filled (realFieldBy rule j) l old in
+      let v = t .values in
+      branchTableOf (filledBranches l (t .ends))
+      (valuesOf (real 2 (v .g)) (real 3 (v .b)) (real 4 (v .g-fr)) (real 5 (v .b-fr)) (real 6 (v .g-to)) (real 7 (v .b-to)) (real 8 (v .tap)) (real 9 (v .shift)) (real 10 (v .sw)))
 
 -- ---- by 02's digit rule
 
@@ -74,3 +82,6 @@ filledGenerators = generatorsBy allowed
 
 abbrev pub filledTriplets : List ℕ → Triplets → Triplets
 filledTriplets = tripletsBy allowed
+
+abbrev pub filledBranchTable : List ℕ → BranchTable → BranchTable
+filledBranchTable = branchTableBy allowed

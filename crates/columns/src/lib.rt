@@ -1,15 +1,16 @@
 // The columns of a case text: field j of each line of a section goes to one place per row. The section stands from a up to e and was found good;
 // a column has a place for each of its rows.
 ghost use mathlib.Core.Path.{_≡_};
-ghost use Prim.Native.Nat.{_≤_, _<_};
+ghost use Prim.Native.Nat.{_+_, _≤_, _<_};
 ghost use mathlib.Core.List.{[]};
 ghost use lib.ListN.{length, getD};
 ghost use lib.Seq.{slice};
 ghost use Rattle.fields.specs.Cut.{pieces};
 ghost use Rattle.network.specs.Network.{Buses, Slacks, Generators, Branches, Triplets, busesOf, slacksOf, generatorsOf, branchesOf, tripletsOf};
+ghost use Rattle.network.specs.BranchTable.{BranchTable, valuesOf, branchTableOf, RoomBranchTable};
 ghost use Rattle.network.specs.Network.{RoomBuses, RoomSlacks, RoomGenerators, RoomBranches, RoomTriplets};
 ghost use Rattle.columns.specs.Columns.{rowCount, filled, realField, numberField, kindField};
-ghost use Rattle.columns.specs.Columns.{filledBuses, filledSlacks, filledGenerators, filledBranches, filledTriplets};
+ghost use Rattle.columns.specs.Columns.{filledBuses, filledSlacks, filledGenerators, filledBranches, filledTriplets, filledBranchTable};
 
 // A part of the text.
 struct Part {
@@ -146,27 +147,28 @@ fn fill_buses_front(
     fill_reals(s, a, e, 3, qd);
 }
 
-// The last four columns of a `B` line.
-fn fill_buses_back(
+// Four columns of reals: fields j to j + 3.
+fn fill_four(
     s: &[u8],
     a: usize,
     e: usize,
-    pg: &mut [f64],
-    qg: &mut [f64],
-    vm_case: &mut [f64],
-    va_case: &mut [f64],
+    j: usize,
+    x: &mut [f64],
+    y: &mut [f64],
+    z: &mut [f64],
+    w: &mut [f64],
 )
-    requires { ⌜ (a ≤ e) × (e ≤ length (now s)) ⌝ }
-    requires { let r = rowCount (slice a e (now s)) in ⌜ (r ≤ length (now pg)) × (r ≤ length (now qg)) × (r ≤ length (now «vm_case»)) × (r ≤ length (now «va_case»)) ⌝ }
-    ensures { λ _. ⌜ (now (pg .exit) ≡ filled (realField 4) (slice a e (now (s .entry))) (now (pg .entry)))
-        × (now (qg .exit) ≡ filled (realField 5) (slice a e (now (s .entry))) (now (qg .entry)))
-        × (now («vm_case» .exit) ≡ filled (realField 6) (slice a e (now (s .entry))) (now («vm_case» .entry)))
-        × (now («va_case» .exit) ≡ filled (realField 7) (slice a e (now (s .entry))) (now («va_case» .entry))) ⌝ }
+    requires { ⌜ (a ≤ e) × (e ≤ length (now s)) × (j + 3 < 16) ⌝ }
+    requires { let r = rowCount (slice a e (now s)) in ⌜ (r ≤ length (now x)) × (r ≤ length (now y)) × (r ≤ length (now z)) × (r ≤ length (now w)) ⌝ }
+    ensures { λ _. ⌜ (now (x .exit) ≡ filled (realField j) (slice a e (now (s .entry))) (now (x .entry)))
+        × (now (y .exit) ≡ filled (realField (j + 1)) (slice a e (now (s .entry))) (now (y .entry)))
+        × (now (z .exit) ≡ filled (realField (j + 2)) (slice a e (now (s .entry))) (now (z .entry)))
+        × (now (w .exit) ≡ filled (realField (j + 3)) (slice a e (now (s .entry))) (now (w .entry))) ⌝ }
 {
-    fill_reals(s, a, e, 4, pg);
-    fill_reals(s, a, e, 5, qg);
-    fill_reals(s, a, e, 6, vm_case);
-    fill_reals(s, a, e, 7, va_case);
+    fill_reals(s, a, e, j, x);
+    fill_reals(s, a, e, j + 1, y);
+    fill_reals(s, a, e, j + 2, z);
+    fill_reals(s, a, e, j + 3, w);
 }
 
 // `B kind vm_set pd qd pg qg vm_case va_case`.
@@ -190,7 +192,7 @@ pub fn fill_buses(
         (now («vm_case» .exit)) (now («va_case» .exit)) ≡ filledBuses (slice a e (now (s .entry))) t ⌝ }
 {
     fill_buses_front(s, a, e, kind, vm_set, pd, qd);
-    fill_buses_back(s, a, e, pg, qg, vm_case, va_case);
+    fill_four(s, a, e, 4, pg, qg, vm_case, va_case);
 }
 
 // `R bus angle`.
@@ -301,4 +303,35 @@ pub fn fill_lines(
 {
     fill_branches(s, l, y, br_from, br_to);
     fill_triplets(s, y, t, y_row, y_col, y_re, y_im);
+}
+
+// `K from to g b g_fr b_fr g_to b_to tap shift sw`.
+pub fn fill_branch_table(
+    s: &[u8],
+    a: usize,
+    e: usize,
+    from: &mut [usize],
+    to: &mut [usize],
+    g: &mut [f64],
+    b: &mut [f64],
+    g_fr: &mut [f64],
+    b_fr: &mut [f64],
+    g_to: &mut [f64],
+    b_to: &mut [f64],
+    tap: &mut [f64],
+    shift: &mut [f64],
+    sw: &mut [f64],
+)
+    ghost { BranchTable }
+    requires { λ t. ⌜ branchTableOf (branchesOf (now from) (now to))
+        (valuesOf (now g) (now b) (now «g_fr») (now «b_fr») (now «g_to») (now «b_to») (now tap) (now shift) (now sw)) ≡ t ⌝ }
+    requires { λ t. ⌜ (a ≤ e) × (e ≤ length (now s)) × RoomBranchTable (rowCount (slice a e (now s))) t ⌝ }
+    ensures { λ t _. ⌜ branchTableOf (branchesOf (now (from .exit)) (now (to .exit)))
+        (valuesOf (now (g .exit)) (now (b .exit)) (now («g_fr» .exit)) (now («b_fr» .exit)) (now («g_to» .exit)) (now («b_to» .exit)) (now (tap .exit))
+        (now (shift .exit)) (now (sw .exit))) ≡ filledBranchTable (slice a e (now (s .entry))) t ⌝ }
+{
+    fill_branches(s, a, e, from, to);
+    fill_four(s, a, e, 2, g, b, g_fr, b_fr);
+    fill_four(s, a, e, 6, g_to, b_to, tap, shift);
+    fill_reals(s, a, e, 10, sw);
 }

@@ -9,7 +9,7 @@ returns c =
     let back = c .before .before .before .before .before .before .before .before in
     let front = back .before .before .before .before .before .before .before .before .before .before .before .before .before in
     let f = front .fill-buses-front .ensures in
-    let b = back .fill-buses-back .ensures in
+    let b = back .fill-four .ensures in
     λ i. busesOf (f .0 i) (f .1 i) (f .2 i) (f .3 i) (b .0 i) (b .1 i) (b .2 i) (b .3 i)
 
 pub fill-buses-spec : {M : Type 1} → statement M
