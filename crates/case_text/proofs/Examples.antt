@@ -21,10 +21,11 @@ use Rattle.rows.specs.Rows.{sectionBy, ended}
 use Rattle.rows.specs.declared.Section.the-variants as Section
 use Rattle.columns.specs.Columns.{columnOf, kindField, realField, numberField}
 use Rattle.case_text.specs.Alphabet.{knownOf}
-use Rattle.trailer.specs.Trailer.{risingOf, trailerOf, bytesOf}
-use Rattle.case_text.specs.Text.{partBy, bodyBy, textBy, textOf}
+use Rattle.trailer.specs.Trailer.{editionOf, risingOf, trailerOf, bytesOf}
+use Rattle.trailer.specs.declared.Edition.the-variants.{First, Second}
+use Rattle.case_text.specs.Text.{partBy, bodyBy, textBy, checkedText, textOf}
 use Rattle.network.specs.Network.{Network, Slacks, busesOf, slacksOf, generatorsOf, branchesOf, tripletsOf, networkOf, rowCounts, roomOf, fitsOf}
-use Rattle.case_text.specs.Answer.{readResult, filledFrom, tablesBy, filledOf, readBy, readOf}
+use Rattle.case_text.specs.Answer.{readResult, filledFrom, tablesBy, filledOf, readFirstBy, readFirst}
 use Rattle.case_text.specs.declared.Contents.{Contents}
 use Rattle.starts.specs.declared.AcStart.the-variants.{Flat}
 use Rattle.case_text.specs.declared.Reading.the-variants as Reading
@@ -35,11 +36,15 @@ listing =
     66 ∷ 32 ∷ 81 ∷ 32 ∷ 49 ∷ 32 ∷ 48 ∷ 32 ∷ 48 ∷ 32 ∷ 48 ∷ 32 ∷ 48 ∷ 32 ∷ 63 ∷ 32 ∷ 63 ∷ 10 ∷ 82 ∷ 32 ∷ 48 ∷ 32 ∷ 48 ∷ 10 ∷ 89 ∷ 32 ∷ 48 ∷ 32 ∷ 48 ∷ 32 ∷ 50 ∷ 32 ∷ 45 ∷ 56 ∷ 10 ∷ 70 ∷ 32 ∷ 48 ∷ 48 ∷ 48 ∷ 48 ∷ 48 ∷ 32 ∷ 48 ∷ 48 ∷ 48 ∷ 49 ∷ 56 ∷ 32 ∷ 48 ∷ 48 ∷ 48 ∷ 50 ∷ 52 ∷ 32 ∷ 48 ∷ 48 ∷ 48 ∷ 50 ∷ 52 ∷ 32 ∷ 48 ∷ 48 ∷ 48 ∷ 50 ∷ 52 ∷ 32 ∷ 48 ∷ 48 ∷ 48 ∷ 51 ∷ 53 ∷ 10 ∷ []
 
 abbrev pub listing-contents : Contents
-listing-contents = record { start = Flat; rows = rowCounts 1 1 0 0 1 }
+listing-contents = record { edition = First; start = Flat; rows = rowCounts 1 1 0 0 1 }
 
 pub listing-text : textOf listing ≡ Reading.Good listing-contents
-unfolding bytesOf partBy bodyBy trailerOf risingOf knownOf sectionBy fieldsBy allSome pieces upto past has digits number counted allowed amountBy
+unfolding textBy editionOf bytesOf partBy bodyBy trailerOf risingOf knownOf sectionBy fieldsBy allSome pieces upto past has digits number counted allowed amountBy
 listing-text = refl
+
+listing-first : checkedText First listing ≡ Reading.Good listing-contents
+unfolding textBy bytesOf partBy bodyBy trailerOf risingOf knownOf sectionBy fieldsBy allSome pieces upto past has digits number counted allowed amountBy
+listing-first = refl
 
 -- its sections' bytes, as its trailer cuts them
 abbrev line-B : List ℕ
@@ -64,11 +69,11 @@ abbrev padded-text : List ℕ
 padded-text = (66 ∷ 32 ∷ 81 ∷ 32 ∷ []) ++ (padded ++ (padded-rest ++ (line-R ++ (line-Y ++ padded-starts))))
 
 pub padded-accepted : textOf padded-text ≡ Reading.Good listing-contents
-unfolding bytesOf partBy bodyBy trailerOf risingOf knownOf sectionBy fieldsBy allSome pieces upto past has digits number counted allowed amountBy
+unfolding textBy editionOf bytesOf partBy bodyBy trailerOf risingOf knownOf sectionBy fieldsBy allSome pieces upto past has digits number counted allowed amountBy
 padded-accepted = refl
 
-pub padded-before : textBy allowedBefore padded-text ≡ Reading.Field 4
-unfolding bytesOf partBy bodyBy trailerOf risingOf knownOf sectionBy fieldsBy allSome pieces upto past has digits number allowedBefore amountBy
+pub padded-before : textBy allowedBefore First padded-text ≡ Reading.Field 4
+unfolding textBy editionOf bytesOf partBy bodyBy trailerOf risingOf knownOf sectionBy fieldsBy allSome pieces upto past has digits number allowedBefore amountBy
 padded-before = refl
 
 bytes-B : bytesOf Section.B listing 35 ≡ line-B
@@ -145,17 +150,17 @@ listing-written : (old : Network) → filledOf listing 35 old ≡ listing-tables
 unfolding tablesBy
 listing-written old = (λ i. filledFrom allowed (bytes-B i) (bytes-R i) (bytes-G i) (bytes-L i) (bytes-Y i) old) ∙ lines-written old
 
-pub listing-read : (old : Network) → fitsOf (listing-contents .rows) (roomOf old) ≡ true → readOf listing old ≡ readResult (given listing-contents) (listing-tables old)
-unfolding readBy
-listing-read old h = rw (listing-text, h) (ap (readResult (given listing-contents)) (listing-written old))
+pub listing-read : (old : Network) → fitsOf (listing-contents .rows) (roomOf old) ≡ true → readFirst listing old ≡ readResult (given listing-contents) (listing-tables old)
+unfolding readFirstBy
+listing-read old h = rw (listing-first, h) (ap (readResult (given listing-contents)) (listing-written old))
 
 -- a bus line whose second field is `1.`
 abbrev pub point-text : List ℕ
 point-text =
     66 ∷ 32 ∷ 81 ∷ 32 ∷ 49 ∷ 46 ∷ 32 ∷ 48 ∷ 32 ∷ 48 ∷ 32 ∷ 48 ∷ 32 ∷ 48 ∷ 32 ∷ 63 ∷ 32 ∷ 63 ∷ 10 ∷ 70 ∷ 32 ∷ 48 ∷ 48 ∷ 48 ∷ 48 ∷ 48 ∷ 32 ∷ 48 ∷ 48 ∷ 48 ∷ 49 ∷ 57 ∷ 32 ∷ 48 ∷ 48 ∷ 48 ∷ 49 ∷ 57 ∷ 32 ∷ 48 ∷ 48 ∷ 48 ∷ 49 ∷ 57 ∷ 32 ∷ 48 ∷ 48 ∷ 48 ∷ 49 ∷ 57 ∷ 32 ∷ 48 ∷ 48 ∷ 48 ∷ 49 ∷ 57 ∷ 10 ∷ []
 
-pub point-refused : (old : Network) → readOf point-text old ≡ readResult (refused 5 (Whole 4 ∷ [])) old
-unfolding readBy tablesBy bytesOf partBy bodyBy trailerOf risingOf knownOf sectionBy ended fieldsBy allSome pieces upto past has digits number counted allowed amountBy ofBits div neg ofInt
+pub point-refused : (old : Network) → readFirst point-text old ≡ readResult (refused 5 (Whole 4 ∷ [])) old
+unfolding readFirstBy tablesBy textBy bytesOf partBy bodyBy trailerOf risingOf knownOf sectionBy ended fieldsBy allSome pieces upto past has digits number counted allowed amountBy ofBits div neg ofInt
 point-refused old = refl
 
 -- two slack rows with the angles `-0` and `-0.25`
@@ -168,7 +173,7 @@ abbrev no-rows : Slacks → Network
 no-rows r = networkOf (busesOf [] [] [] [] [] [] [] []) r (generatorsOf [] [] []) (branchesOf [] []) (tripletsOf [] [] [] [])
 
 pub minus-read : (i j : ℕ) (u v : Float)
-    → readOf minus-text (no-rows (slacksOf (i ∷ j ∷ []) (u ∷ v ∷ [])))
-    ≡ readResult (given (record { start = Flat; rows = rowCounts 0 2 0 0 0 })) (no-rows (slacksOf (0 ∷ 1 ∷ []) (lit 0x8000_0000_0000_0000 ∷ lit 0xbfd0_0000_0000_0000 ∷ [])))
-unfolding both readBy tablesBy bytesOf partBy bodyBy trailerOf risingOf knownOf sectionBy ended fieldsBy allSome pieces upto past has digits number counted allowed amountBy ofBits div neg ofInt
+    → readFirst minus-text (no-rows (slacksOf (i ∷ j ∷ []) (u ∷ v ∷ [])))
+    ≡ readResult (given (record { edition = First; start = Flat; rows = rowCounts 0 2 0 0 0 })) (no-rows (slacksOf (0 ∷ 1 ∷ []) (lit 0x8000_0000_0000_0000 ∷ lit 0xbfd0_0000_0000_0000 ∷ [])))
+unfolding both readFirstBy tablesBy textBy bytesOf partBy bodyBy trailerOf risingOf knownOf sectionBy ended fieldsBy allSome pieces upto past has digits number counted allowed amountBy ofBits div neg ofInt
 minus-read i j u v = refl

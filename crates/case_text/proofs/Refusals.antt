@@ -14,9 +14,8 @@ use Rattle.rows.specs.declared.Check.{Check}
 use Rattle.rows.specs.declared.Check.the-variants as Check
 use Rattle.case_text.proofs.Reading.{the-type as reading-type}
 use Rattle.case_text.specs.Text.{thenSection, sectionRefusal}
-use Rattle.case_text.specs.Answer.{withRoom, readResultOf, readResult, paperOf}
+use Rattle.case_text.specs.Answer.{withRoom, resultOf, readResult, paperOf}
 use Rattle.network.specs.declared.Rows.{Rows}
-use Rattle.network.specs.Network.{Network}
 use Rattle.case_text.specs.declared.Reading.{Reading}
 use Rattle.case_text.specs.declared.Reading.the-variants as Reading
 
@@ -53,5 +52,5 @@ pub no-room : (v : Reading) (m : Rows) → Refused v → withRoom v m ≡ v
 no-room v m h = rw (refused-paper v h .3)
 
 -- and the columns stay as they were
-pub untouched : (s : List ℕ) (v : Reading) (old : Network) → Refused v → readResultOf s v old ≡ readResult (paperOf v) old
-untouched s v old h = rw (refused-paper v h .3)
+pub untouched : {T : Type 0} (v : Reading) (new old : T) → Refused v → resultOf v new old ≡ readResult (paperOf v) old
+untouched v new old h = rw (refused-paper v h .3)

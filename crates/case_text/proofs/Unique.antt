@@ -7,10 +7,11 @@ use mathlib.Core.List.{List}
 use Prim.Native.Nat.{ℕ}
 use lib.Dec.{eqb}
 use Rattle.real.specs.Paper.{Paper, given, refused, placeIn, onGiven}
-use Rattle.network.specs.Network.{Network, roomOf, fitsOf}
-use Rattle.trailer.specs.Trailer.{trailerStart}
-use Rattle.case_text.specs.Text.{textOf}
-use Rattle.case_text.specs.Answer.{paperOf, judgedOf, filledOf, ReadResult, readResult, readResultOf, readBy, readOf}
+use Rattle.network.specs.declared.Rows.{Rows}
+use Rattle.network.specs.Network.{fitsOf}
+use Rattle.trailer.specs.declared.Edition.{Edition}
+use Rattle.case_text.specs.Text.{checkedText}
+use Rattle.case_text.specs.Answer.{paperOf, judgedOf, ReadResult, readResult, resultOf, Columns, readOf}
 use Rattle.case_text.specs.Answer.Laws.{with-room}
 use Rattle.case_text.specs.declared.Contents.{Contents}
 use Rattle.case_text.specs.declared.Reading.{Reading}
@@ -44,41 +45,42 @@ back-paper Reading.Room = refl
 pub paper-tells : (r₁ r₂ : Reading) → paperOf r₁ ≡ paperOf r₂ → r₁ ≡ r₂
 paper-tells r₁ r₂ h = sym (back-paper r₁) ∙ ap back h ∙ back-paper r₂
 
-abbrev answer : ReadResult → Paper Contents
+abbrev answer : {T : Type 0} → ReadResult T → Paper Contents
 answer (readResult p c) = p
 
-abbrev left : ReadResult → Network
+abbrev left : {T : Type 0} → ReadResult T → T
 left (readResult p c) = c
 
--- ---- two outcomes that meet the contract are equal, lent memory included
+-- ---- two outcomes that meet a reader's contract are equal, lent memory included
 
-pub same-outcome : (s : List ℕ) (old : Network) (r₁ r₂ : Reading) (new₁ new₂ : Network) → readResult (paperOf r₁) new₁ ≡ readOf s old
+one-result : {T : Type 0} (x : ReadResult T) (r₁ r₂ : Reading) (new₁ new₂ : T) → readResult (paperOf r₁) new₁ ≡ x → readResult (paperOf r₂) new₂ ≡ x
+    → (r₁ ≡ r₂) × (new₁ ≡ new₂)
+one-result x r₁ r₂ new₁ new₂ h k = let e = h ∙ sym k in (paper-tells r₁ r₂ (ap answer e), ap left e)
+
+pub same-outcome : (s : List ℕ) (old : Columns) (r₁ r₂ : Reading) (new₁ new₂ : Columns) → readResult (paperOf r₁) new₁ ≡ readOf s old
     → readResult (paperOf r₂) new₂ ≡ readOf s old → (r₁ ≡ r₂) × (new₁ ≡ new₂)
-same-outcome s old r₁ r₂ new₁ new₂ h k = let e = h ∙ sym k in (paper-tells r₁ r₂ (ap answer e), ap left e)
+same-outcome s old = one-result (readOf s old)
 
--- ---- what it accepts, and what it leaves
+-- ---- what a reading by an edition's rules accepts, and what it leaves
 
-left-alone : (p : Paper Contents) (new old : Network) → ((c : Contents) → p ≡ given c → ⊥) → onGiven p (λ c. new) old ≡ old
+left-alone : {T : Type 0} (p : Paper Contents) (new old : T) → ((c : Contents) → p ≡ given c → ⊥) → onGiven p (λ c. new) old ≡ old
 left-alone (given c) new old h = absurd (h c refl)
 left-alone (refused number values) new old h = refl
 
-module _ (s : List ℕ) (old new : Network) (r : Reading) (h : readResult (paperOf r) new ≡ readOf s old) where
+module _ {T : Type 0} (e : Edition) (s : List ℕ) (m : Rows) (filled old new : T) (r : Reading) (h : readResult (paperOf r) new ≡ resultOf (judgedOf e s m) filled old) where
   -- the answer is the definition's
-  pub answer-is : r ≡ judgedOf s (roomOf old)
-  unfolding readBy
-  answer-is = paper-tells r (judgedOf s (roomOf old)) (ap answer h)
+  answer-is : r ≡ judgedOf e s m
+  answer-is = paper-tells r (judgedOf e s m) (ap answer h)
 
   -- accepted if and only if the definition accepts the text and its rows fit
-  pub accepts : (c : Contents) → (r ≡ Reading.Good c) ↔ ((textOf s ≡ Reading.Good c) × (fitsOf (c .rows) (roomOf old) ≡ true))
-  accepts c = (λ e. with-room (textOf s) (roomOf old) c (sym answer-is ∙ e), λ e. answer-is ∙ rw (e .0, e .1))
+  pub accepts : (c : Contents) → (r ≡ Reading.Good c) ↔ ((checkedText e s ≡ Reading.Good c) × (fitsOf (c .rows) m ≡ true))
+  accepts c = (λ k. with-room (checkedText e s) m c (sym answer-is ∙ k), λ k. answer-is ∙ rw (k .0, k .1))
 
   -- and then the places written are the definition's values
-  pub writes : (c : Contents) → r ≡ Reading.Good c → new ≡ filledOf s (trailerStart s) old
-  unfolding readBy
-  writes c e = ap left h ∙ ap (λ (v : Reading). left (readResultOf s v old)) (sym answer-is ∙ e)
+  pub writes : (c : Contents) → r ≡ Reading.Good c → new ≡ filled
+  writes c k = ap left h ∙ ap (λ (v : Reading). left (resultOf v filled old)) (sym answer-is ∙ k)
 
   -- a refusal leaves every column untouched
   pub refusal-writes-nothing : ((c : Contents) → r ≡ Reading.Good c → ⊥) → new ≡ old
-  unfolding readBy
   refusal-writes-nothing k =
-      ap left h ∙ ap (λ (v : Reading). left (readResultOf s v old)) (sym answer-is) ∙ left-alone (paperOf r) _ old (λ c e. k c (paper-tells r (Reading.Good c) e))
+      ap left h ∙ ap (λ (v : Reading). left (resultOf v filled old)) (sym answer-is) ∙ left-alone (paperOf r) filled old (λ c q. k c (paper-tells r (Reading.Good c) q))

@@ -1,4 +1,4 @@
--- The reader's answer: 01's number and values for each case, refusal 9, and the tables afterwards.
+-- The reader's answer: 01's number and values for each case, refusal 9, and the tables afterwards, of either edition and of both.
 pub mod Laws
 use Prim.Native.Nat.{ℕ}
 use mathlib.Core.Bool.{cond}
@@ -7,11 +7,14 @@ use Rattle.real.specs.declared.Value.the-variants.{Whole}
 use Rattle.real.specs.Paper.{Paper, given, refused, onGiven}
 use Rattle.network.specs.declared.Rows.{Rows}
 use Rattle.network.specs.Network.{Network, networkOf, roomOf, fitsOf}
+use Rattle.network.specs.BranchTable.{BranchTable, BranchNetwork, branchNetworkOf, branchRoomOf}
 use Rattle.fields.specs.Real.{DigitRule, allowed}
 use Rattle.rows.specs.declared.Section.the-variants as Section
-use Rattle.columns.specs.Columns.{busesBy, slacksBy, generatorsBy, filledBranches, tripletsBy}
-use Rattle.trailer.specs.Trailer.{trailerStart, bytesOf}
-use Rattle.case_text.specs.Text.{textBy, textOf}
+use Rattle.columns.specs.Columns.{busesBy, slacksBy, generatorsBy, filledBranches, tripletsBy, branchTableBy}
+use Rattle.trailer.specs.Trailer.{trailerStart, editionOf, bytesOf}
+use Rattle.trailer.specs.declared.Edition.{Edition}
+use Rattle.trailer.specs.declared.Edition.the-variants.{First, Second}
+use Rattle.case_text.specs.Text.{textBy, checkedText}
 use Rattle.case_text.specs.declared.Contents.{Contents}
 use Rattle.case_text.specs.declared.Reading.{Reading}
 use Rattle.case_text.specs.declared.Reading.the-variants as Reading
@@ -32,8 +35,14 @@ abbrev pub withRoom : Reading → Rows → Reading
 withRoom v m = onGiven (paperOf v) (λ c. cond (fitsOf (c .rows) m) v Reading.Room) v
 
 -- the answer and the tables afterwards
-pub data ReadResult : Type 0 where
-  readResult : Paper Contents → Network → ReadResult
+pub data ReadResult (T : Type 0) : Type 0 where
+  readResult : Paper Contents → T → ReadResult T
+
+-- "A reader refusal leaves its output columns untouched."
+abbrev pub resultOf : {T : Type 0} → Reading → T → T → ReadResult T
+resultOf v filled old = readResult (paperOf v) (onGiven (paperOf v) (λ c. filled) old)
+
+-- ---- each edition's reader
 
 module _ (rule : DigitRule) where
   -- "A good reading writes one place per row and none past them", of the bytes of the five sections
@@ -42,28 +51,68 @@ module _ (rule : DigitRule) where
       networkOf (busesBy rule b (old .buses)) (slacksBy rule r (old .slacks)) (generatorsBy rule g (old .generators)) (filledBranches l (old .branches))
       (tripletsBy rule y (old .triplets))
 
+  -- and of the four of a second-edition text
+  abbrev pub branchesFrom : List ℕ → List ℕ → List ℕ → List ℕ → BranchNetwork → BranchNetwork
+  branchesFrom b r g k old =
+      branchNetworkOf (busesBy rule b (old .buses)) (slacksBy rule r (old .slacks)) (generatorsBy rule g (old .generators)) (branchTableBy rule k (old .table))
+
   -- the tables after a good reading of a text whose trailer starts at t
   unfoldable pub tablesBy : List ℕ → ℕ → Network → Network
   tablesBy s t old = filledFrom (bytesOf Section.B s t) (bytesOf Section.R s t) (bytesOf Section.G s t) (bytesOf Section.L s t) (bytesOf Section.Y s t) old
 
-  -- "A reader refusal leaves its output columns untouched."
-  abbrev pub readResultBy : List ℕ → Reading → Network → ReadResult
-  readResultBy s v old = readResult (paperOf v) (onGiven (paperOf v) (λ c. tablesBy s (trailerStart s) old) old)
+  unfoldable pub branchTablesBy : List ℕ → ℕ → BranchNetwork → BranchNetwork
+  branchTablesBy s t old = branchesFrom (bytesOf Section.B s t) (bytesOf Section.R s t) (bytesOf Section.G s t) (bytesOf Section.K s t) old
 
-  -- what the reader answers and leaves, of the text and the columns as they were
-  unfoldable pub readBy : List ℕ → Network → ReadResult
-  readBy s old = readResultBy s (withRoom (textBy rule s) (roomOf old)) old
+  -- what the reader of the first edition, which is 01's, answers and leaves, of the text and the columns as they were
+  unfoldable pub readFirstBy : List ℕ → Network → ReadResult Network
+  readFirstBy s old = resultOf (withRoom (textBy rule First s) (roomOf old)) (tablesBy s (trailerStart First s) old) old
+
+  -- the reader of the second edition
+  unfoldable pub readSecondBy : List ℕ → BranchNetwork → ReadResult BranchNetwork
+  readSecondBy s old = resultOf (withRoom (textBy rule Second s) (branchRoomOf old)) (branchTablesBy s (trailerStart Second s) old) old
 
 -- ---- by 02's digit rule
 
-abbrev pub judgedOf : List ℕ → Rows → Reading
-judgedOf s m = withRoom (textOf s) m
+abbrev pub judgedOf : Edition → List ℕ → Rows → Reading
+judgedOf e s m = withRoom (checkedText e s) m
 
 abbrev pub filledOf : List ℕ → ℕ → Network → Network
 filledOf = tablesBy allowed
 
-abbrev pub readResultOf : List ℕ → Reading → Network → ReadResult
-readResultOf = readResultBy allowed
+abbrev pub branchFilledOf : List ℕ → ℕ → BranchNetwork → BranchNetwork
+branchFilledOf = branchTablesBy allowed
 
-abbrev pub readOf : List ℕ → Network → ReadResult
-readOf = readBy allowed
+abbrev pub readFirst : List ℕ → Network → ReadResult Network
+readFirst = readFirstBy allowed
+
+abbrev pub readSecond : List ℕ → BranchNetwork → ReadResult BranchNetwork
+readSecond = readSecondBy allowed
+
+-- ---- the reader of both
+
+-- the columns of both editions, of which they share the buses, the slack rows and the generators
+pub record Columns : Type 0 where
+  pub network : Network
+  pub table : BranchTable
+
+abbrev pub columnsOf : Network → BranchTable → Columns
+columnsOf network table = record { network = network; table = table }
+
+abbrev pub branchesIn : Columns → BranchNetwork
+branchesIn o = branchNetworkOf (o .network .buses) (o .network .slacks) (o .network .generators) (o .table)
+
+-- a reading of one edition leaves the other's own columns untouched
+abbrev pub withFirst : Columns → ReadResult Network → ReadResult Columns
+withFirst old (readResult p n) = readResult p (columnsOf n (old .table))
+
+abbrev pub withSecond : Columns → ReadResult BranchNetwork → ReadResult Columns
+withSecond old (readResult p n) =
+    readResult p (columnsOf (networkOf (n .buses) (n .slacks) (n .generators) (old .network .branches) (old .network .triplets)) (n .table))
+
+-- a text is read by the rules of its own edition
+abbrev pub readAs : Edition → List ℕ → Columns → ReadResult Columns
+readAs First s old = withFirst old (readFirst s (old .network))
+readAs Second s old = withSecond old (readSecond s (branchesIn old))
+
+unfoldable pub readOf : List ℕ → Columns → ReadResult Columns
+readOf s old = readAs (editionOf s) s old

@@ -4,3 +4,4 @@ pub mod Answer
 pub mod Printed
 pub mod Named
 pub mod Before
+pub mod Old

@@ -9,14 +9,15 @@ use Rattle.rows.specs.Rows.{rowsOf}
 use Rattle.rows.specs.declared.Section.{Section}
 use Rattle.rows.specs.declared.Section.the-variants as Section
 use Rattle.columns.specs.Columns.{rowCount, numberField}
-use Rattle.trailer.specs.Trailer.{bytesOf}
+use Rattle.trailer.specs.Trailer.{behindG, bytesOf}
+use Rattle.trailer.specs.declared.Edition.{Edition}
 
--- the section of a table whose rows name buses
-abbrev pub namingSection : Naming → Section
-namingSection Naming.Slack = Section.R
-namingSection Naming.Generator = Section.G
-namingSection Naming.Branch = Section.L
-namingSection Naming.Triplet = Section.Y
+-- the section of a table whose rows name buses; the second edition's branches are those of K
+abbrev pub namingSection : Edition → Naming → Section
+namingSection e Naming.Slack = Section.R
+namingSection e Naming.Generator = Section.G
+namingSection e Naming.Branch = behindG e
+namingSection e Naming.Triplet = Section.Y
 
 -- how many bus numbers its lines begin with
 abbrev pub busFields : Naming → ℕ
@@ -25,17 +26,17 @@ busFields Naming.Generator = 1
 busFields Naming.Branch = 2
 busFields Naming.Triplet = 2
 
-module _ (s : List ℕ) (t : ℕ) where
+module _ (e : Edition) (s : List ℕ) (t : ℕ) where
   -- how many buses a text has whose trailer starts at t, and the bus number in field j of line i
   abbrev pub textBuses : ℕ
   textBuses = rowCount (bytesOf Section.B s t)
 
   abbrev pub busNumber : Naming → ℕ → ℕ → ℕ
-  busNumber table i j = numberField j (getD (rowsOf (bytesOf (namingSection table) s t)) i [])
+  busNumber table i j = numberField j (getD (rowsOf (bytesOf (namingSection e table) s t)) i [])
 
   -- field j of line i names a bus that is not there; no field before it in that line, and no line before it in that section, does
   pub record LowestLine (table : Naming) (i j : ℕ) : Type 0 where
-    pub inside : i < rowCount (bytesOf (namingSection table) s t)
+    pub inside : i < rowCount (bytesOf (namingSection e table) s t)
     pub field : j < busFields table
     pub names : textBuses ≤ busNumber table i j
     pub fields-before : (k : ℕ) → k < j → busNumber table i k < textBuses

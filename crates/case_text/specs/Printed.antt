@@ -7,7 +7,9 @@ use lib.Seq.{slice}
 use Rattle.rows.specs.Printed.{printed, fieldTable}
 use Rattle.rows.specs.declared.Section.{Section}
 use Rattle.rows.specs.declared.Section.the-variants as Section
-use Rattle.trailer.specs.Trailer.{groups, bytesOf}
+use Rattle.trailer.specs.Trailer.{groupsOf, behindG, bytesOf}
+use Rattle.trailer.specs.declared.Edition.{Edition}
+use Rattle.trailer.specs.declared.Edition.the-variants.{First, Second}
 
 -- the rows of a section, printed
 abbrev pub rowsPrinted : Section → List ℕ → ℕ → List ℕ
@@ -22,6 +24,10 @@ groupsPrinted (suc k) s at = 32 ∷ (slice (at + 1) (at + 6) s ++ groupsPrinted 
 abbrev pub trailerPrinted : ℕ → List ℕ → ℕ → List ℕ
 trailerPrinted k s t = getD s t 0 ∷ (groupsPrinted k s (t + 1) ++ (10 ∷ []))
 
-abbrev pub textPrinted : List ℕ → ℕ → List ℕ
-textPrinted s t =
-    rowsPrinted Section.B s t ++ (rowsPrinted Section.R s t ++ (rowsPrinted Section.G s t ++ (rowsPrinted Section.L s t ++ (rowsPrinted Section.Y s t ++ trailerPrinted groups s t))))
+-- the triplets' rows, of which the second edition has none, and the trailer
+abbrev pub endPrinted : Edition → List ℕ → ℕ → List ℕ
+endPrinted First s t = rowsPrinted Section.Y s t ++ trailerPrinted (groupsOf First) s t
+endPrinted Second s t = trailerPrinted (groupsOf Second) s t
+
+abbrev pub textPrinted : Edition → List ℕ → ℕ → List ℕ
+textPrinted e s t = rowsPrinted Section.B s t ++ (rowsPrinted Section.R s t ++ (rowsPrinted Section.G s t ++ (rowsPrinted (behindG e) s t ++ endPrinted e s t)))

@@ -11,7 +11,7 @@ check-section-requires : tie.Need-check-section-requires
 check-section-requires c κs =
     let x = c .before .before .before in
     let a = x .args in
-    let w = within (a .s .now) (a .t) (x .pre .1) (a .z) in
+    let w = within (a .x) (a .s .now) (a .t) (x .pre .1) (a .z) (x .pre .2) in
     omega (arith, w .ordered, w .inside)
 
 returns : tie.Need-returns

@@ -1,43 +1,56 @@
 -- `case_text::check_text` meets its contract: the ways are those of the definition. Assumes nothing.
 use mathlib.Core.Path.{sym, _∙_}
+use native.Mathlib.Omega.{arith}
 use borrow.Author.Needs.{needs}
-use borrow.Author.Tests.{lt-ltb, le-ltb, not-true, not-false}
+use borrow.Author.Tests.{not-true, not-false}
+use Rattle.case_text.specs.Text.Laws.{text-short, text-long, text-untrailed, text-strange, text-body}
 use Rattle.case_text.proofs.check_text.Statement.{statement}
 use Rattle.case_text.proofs.check_text.Tie as tie
 
 returns : tie.Need-returns
-returns c = rw (lt-ltb _ _ (c .if1 .taken))
+returns c = text-short _ _ _ (c .before .width .ensures) (c .if1 .taken)
 
 returns-2 : tie.Need-returns-2
-returns-2 c = rw (le-ltb _ _ (c .before .if1 .left), lt-ltb _ _ (c .if2 .taken))
+returns-2 c = let i = c .before in text-long _ _ _ (i .before .width .ensures) (i .if1 .left) (c .if2 .taken)
+
+is-trailer-requires : tie.Need-is-trailer-requires
+is-trailer-requires c κs = let i = c .before in omega (arith, i .before .width .ensures, i .if1 .left)
 
 returns-3 : tie.Need-returns-3
 returns-3 c =
     let t = c .before in
-    let i = t .before in
-    rw (le-ltb _ _ (i .before .if1 .left), le-ltb _ _ (i .if2 .left), sym (t .is-trailer .ensures) ∙ not-true (t .is-trailer .result) (c .if3 .taken))
+    let j = t .before in
+    let i = j .before in
+    text-untrailed _ _ _ (i .before .width .ensures) (i .if1 .left) (j .if2 .left) (sym (t .is-trailer .ensures) ∙ not-true (t .is-trailer .result) (c .if3 .taken))
 
 returns-4 : tie.Need-returns-4
 returns-4 c =
     let p = c .before in
-    let t = p .before .before in
-    let i = t .before in
-    rw (le-ltb _ _ (i .before .if1 .left), le-ltb _ _ (i .if2 .left), sym (t .is-trailer .ensures) ∙ not-false (t .is-trailer .result) (p .before .if3 .left), ← p .stranger .ensures, lt-ltb _ _ (c .if4 .taken))
+    let k = p .before in
+    let t = k .before in
+    let j = t .before in
+    let i = j .before in
+    text-strange _ _ _ (i .before .width .ensures) (i .if1 .left) (j .if2 .left) (sym (t .is-trailer .ensures) ∙ not-false (t .is-trailer .result) (k .if3 .left)) _ (p .stranger .ensures) (c .if4 .taken)
 
 body-requires : tie.Need-body-requires
 body-requires c κs =
-    let i = c .before .before in
-    let t = i .before .is-trailer in
-    (search needs, sym (t .ensures) ∙ not-false (t .result) (i .if3 .left))
+    let k = c .before .before in
+    let t = k .before in
+    let i = t .before .before in
+    (omega (arith, i .before .width .ensures, i .if1 .left), sym (t .is-trailer .ensures) ∙ not-false (t .is-trailer .result) (k .if3 .left))
 
 returns-5 : tie.Need-returns-5
 returns-5 c =
-    let j = c .before in
-    let p = j .before in
-    let t = p .before .before in
-    let i = t .before in
-    rw (le-ltb _ _ (i .before .if1 .left), le-ltb _ _ (i .if2 .left), sym (t .is-trailer .ensures) ∙ not-false (t .is-trailer .result) (p .before .if3 .left), ← p .stranger .ensures, le-ltb _ _ (j .if4 .left))
-    (c .body .ensures)
+    let l = c .before in
+    let p = l .before in
+    let k = p .before in
+    let t = k .before in
+    let j = t .before in
+    let i = j .before in
+    text-body _ _ _ (i .before .width .ensures) (i .if1 .left) (j .if2 .left) (sym (t .is-trailer .ensures) ∙ not-false (t .is-trailer .result) (k .if3 .left)) _ (p .stranger .ensures)
+    (l .if4 .left) (c .body .result) (c .body .ensures)
 
 pub check-text-spec : {M : Type 1} → statement M
-check-text-spec = tie.close (tie.spec returns returns-2 (λ c κs. search needs) returns-3 (λ c κs. search needs) returns-4 body-requires returns-5)
+check-text-spec =
+    tie.close
+    (tie.spec (λ c κs. search needs) returns returns-2 is-trailer-requires returns-3 (λ c κs. search needs) returns-4 body-requires returns-5)

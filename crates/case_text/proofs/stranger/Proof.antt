@@ -10,10 +10,10 @@ use Rattle.case_text.proofs.stranger.Statement.{statement}
 use Rattle.case_text.proofs.stranger.Tie as tie
 
 abbrev Inv-loop : tie.InvT-loop
-Inv-loop s e i₀ i = (i ≤ e) × (i + knownOf (slice i e s) ≡ knownOf (slice 0 e s))
+Inv-loop s e x i₀ i = (i ≤ e) × (i + knownOf x (slice i e s) ≡ knownOf x (slice 0 e s))
 
 abbrev μ-loop : tie.MeasureT-loop
-μ-loop s e i₀ i = e - i
+μ-loop s e x i₀ i = e - i
 
 loop-holds : tie.Need-loop-holds Inv-loop μ-loop
 loop-holds c = (omega arith, omega arith)
@@ -22,19 +22,19 @@ loop-again : tie.Need-loop-again Inv-loop μ-loop
 loop-again c =
     let a = c .before .before .before .before .before .before .args in
     let l = c .before .before .before .before .loop in
-    omega (arith, known-on (a .s .now) (l .i) (a .e) (omega arith) (omega arith) (sym (c .before .known .ensures) ∙ c .if1 .taken))
+    omega (arith, known-on (a .x) (a .s .now) (l .i) (a .e) (omega arith) (omega arith) (sym (c .before .known .ensures) ∙ c .if1 .taken))
 
 returns : tie.Need-returns Inv-loop μ-loop
 returns c =
     let a = c .before .before .before .before .before .before .args in
     let l = c .before .before .before .before .loop in
-    omega (arith, known-stop (a .s .now) (l .i) (a .e) (omega arith) (omega arith) (sym (c .before .known .ensures) ∙ c .if1 .left))
+    omega (arith, known-stop (a .x) (a .s .now) (l .i) (a .e) (omega arith) (omega arith) (sym (c .before .known .ensures) ∙ c .if1 .left))
 
 returns-2 : tie.Need-returns-2 Inv-loop μ-loop
 returns-2 c =
     let a = c .before .before .before .args in
     let l = c .before .loop in
-    omega (arith, known-end (a .s .now) (l .i) (a .e) (omega arith))
+    omega (arith, known-end (a .x) (a .s .now) (l .i) (a .e) (omega arith))
 
 pub stranger-spec : {M : Type 1} → statement M
 stranger-spec =

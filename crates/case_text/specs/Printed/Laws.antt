@@ -26,11 +26,13 @@ use Rattle.rows.specs.declared.Section.the-variants as Section
 use Rattle.rows.specs.declared.Check.the-variants as Check
 use Rattle.columns.specs.Columns.{rowCount, cellOf, realField}
 use Rattle.columns.specs.Figures.{Reals, figure-nearest}
-use Rattle.trailer.specs.Trailer.{groups, widthOf, trailerLength, trailerStart, groupAt, startAt, risingOf, indexOf, sectionStart, sectionEnd, bytesOf}
-use Rattle.trailer.specs.Trailer.Laws.{first-group, groups-after, GoodTrailer, good-trailer, rising, Within, within}
-use Rattle.case_text.specs.Text.{partBy, partOf, textOf}
+use Rattle.trailer.specs.Trailer.{groupsOf, widthOf, trailerLength, trailerStart, editionOf, groupAt, startAt, risingOf, trailerOf, indexOf, behindG, lastOf, Starts, sectionStart, sectionEnd, bytesOf}
+use Rattle.trailer.specs.Trailer.Laws.{first-group, groups-after, GoodTrailer, good-trailer, rising, Within, within, starts-B, starts-R, starts-G, starts-behind-G, starts-last, G-meets}
+use Rattle.trailer.specs.declared.Edition.{Edition}
+use Rattle.trailer.specs.declared.Edition.the-variants.{First, Second}
+use Rattle.case_text.specs.Text.{partBy, partOf, tripletPartOf, checkedText, textOf}
 use Rattle.case_text.specs.Text.Laws.{Accepted, accepted-has}
-use Rattle.case_text.specs.Printed.{rowsPrinted, groupsPrinted, trailerPrinted, textPrinted}
+use Rattle.case_text.specs.Printed.{rowsPrinted, groupsPrinted, trailerPrinted, endPrinted, textPrinted}
 use Rattle.case_text.specs.declared.Contents.{Contents}
 use Rattle.case_text.specs.declared.Reading.the-variants as Reading
 
@@ -81,27 +83,46 @@ part-printed z s t n rest h k g q =
     sym (slice-join s (sectionStart z s t) (sectionEnd z s t) h k) ∙ ap (λ (x : List ℕ). slice (sectionStart z s t) (sectionEnd z s t) s ++ x) q
     ∙ ap (λ (x : List ℕ). x ++ rest) (section-printed z (sectionStart z s t) (slice (sectionStart z s t) (sectionEnd z s t) s) n g)
 
-end-inside : (s : List ℕ) (z : Section) → Within (sectionStart z s (trailerStart s)) (sectionEnd z s (trailerStart s)) (trailerStart s) → trailerLength ≤ length s
-    → sectionEnd z s (trailerStart s) ≤ length s
-end-inside s z w h = omega (arith, w .inside)
-
 -- ---- the whole
 
-pub text-printed : (s : List ℕ) (c : Contents) → textOf s ≡ Reading.Good c → s ≡ textPrinted s (trailerStart s)
-text-printed s c h =
-    let t = trailerStart s in
-    let a = accepted-has s c h in
-    let g = good-trailer s t (a .trailer) in
-    let u = rising groups s t g in
-    let w = within s t (a .trailer) in
+module _ (e : Edition) (s : List ℕ) (t : ℕ) (long : t + trailerLength e ≡ length s) (good : trailerOf e s t ≡ true) where
+  lies : (z : Section) → Starts e z → Within (sectionStart z s t) (sectionEnd z s t) t
+  lies = within e s t good
+
+  -- a good section that the trailer has the start of, and what follows it
+  section-then : (z : Section) → Starts e z → (n : ℕ) (rest : List ℕ) → partOf z s t ≡ Check.Good n → drop (sectionEnd z s t) s ≡ rest
+      → drop (sectionStart z s t) s ≡ rowsPrinted z s t ++ rest
+  section-then z b n rest g q = part-printed z s t n rest (lies z b .ordered) (omega (arith, lies z b .inside)) g q
+
+  trailer-at : (z : Section) → indexOf z + 1 + 1 ≡ groupsOf e → drop (sectionEnd z s t) s ≡ trailerPrinted (groupsOf e) s t
+  trailer-at z last =
+      let g = good-trailer e s t good in
+      ap (λ (n : ℕ). drop n s) (rising (groupsOf e) s t g .last (indexOf z + 1) last) ∙ trailer-printed (groupsOf e) s t long g
+
+-- what stands behind the lines
+end-printed : (e : Edition) (s : List ℕ) (t n : ℕ) → t + trailerLength e ≡ length s → trailerOf e s t ≡ true → tripletPartOf e s t ≡ Check.Good n
+    → drop (sectionEnd (behindG e) s t) s ≡ endPrinted e s t
+end-printed First s t n long good h = section-then First s t long good Section.Y (starts-last First) n _ h (trailer-at First s t long good Section.Y refl)
+end-printed Second s t n long good h = trailer-at Second s t long good Section.K refl
+
+-- a text that an edition accepts
+pub edition-printed : (e : Edition) (s : List ℕ) (c : Contents) → checkedText e s ≡ Reading.Good c → s ≡ textPrinted e s (trailerStart e s)
+edition-printed e s c h =
+    let t = trailerStart e s in
+    let a = accepted-has e s c h in
     let b = a .body in
-    ap (λ (n : ℕ). drop n s) (sym (g .zero-first))
-    ∙ part-printed Section.B s t (c .rows .buses) _ (w Section.B .ordered) (end-inside s Section.B (w Section.B) (a .least)) (b .buses)
-    (part-printed Section.R s t (c .rows .slacks) _ (w Section.R .ordered) (end-inside s Section.R (w Section.R) (a .least)) (b .slacks)
-    (part-printed Section.G s t (c .rows .generators) _ (w Section.G .ordered) (end-inside s Section.G (w Section.G) (a .least)) (b .generators)
-    (part-printed Section.L s t (c .rows .branches) _ (w Section.L .ordered) (end-inside s Section.L (w Section.L) (a .least)) (b .branches)
-    (part-printed Section.Y s t (c .rows .triplets) _ (w Section.Y .ordered) (end-inside s Section.Y (w Section.Y) (a .least)) (b .triplets)
-    (ap (λ (n : ℕ). drop n s) (u .last (indexOf Section.Y + 1) refl) ∙ trailer-printed groups s t (omega (arith, a .least)) g)))))
+    let long : t + trailerLength e ≡ length s = omega (arith, a .least) in
+    let part = section-then e s t long (a .trailer) in
+    ap (λ (n : ℕ). drop n s) (sym (good-trailer e s t (a .trailer) .zero-first))
+    ∙ part Section.B (starts-B e) (c .rows .buses) _ (b .buses)
+    (part Section.R (starts-R e) (c .rows .slacks) _ (b .slacks)
+    (part Section.G (starts-G e) (c .rows .generators) _ (b .generators)
+    (ap (λ (n : ℕ). drop n s) (G-meets e s t)
+    ∙ part (behindG e) (starts-behind-G e) (c .rows .branches) _ (b .branches) (end-printed e s t (c .rows .triplets) long (a .trailer) (b .triplets)))))
+
+-- a text that is accepted, by the rules of its own edition
+pub text-printed : (s : List ℕ) (c : Contents) → textOf s ≡ Reading.Good c → s ≡ textPrinted (editionOf s) s (trailerStart (editionOf s) s)
+text-printed s = edition-printed (editionOf s) s
 
 -- every field of every row is what is asked of it
 pub fields-sound : (s : List ℕ) (t n : ℕ) (z : Section) → partOf z s t ≡ Check.Good n → (k : ℕ) → k < length (rowsOf (bytesOf z s t))
@@ -111,19 +132,35 @@ fields-sound s t n z h k i = section-sound allowed z (sectionStart z s t) (bytes
 
 -- ---- the figures
 
+-- the sections that an edition has
+abbrev pub Has : Edition → Section → Type 0
+Has e Section.B = Unit
+Has e Section.R = Unit
+Has e Section.G = Unit
+Has First Section.L = Unit
+Has First Section.Y = Unit
+Has First Section.K = ⊥
+Has Second Section.L = ⊥
+Has Second Section.Y = ⊥
+Has Second Section.K = Unit
+
 -- each section of an accepted text has sound rows
-accepted-part : (s : List ℕ) (t : ℕ) (c : Contents) (z : Section) → Accepted s t c → (n : ℕ) × (partOf z s t ≡ Check.Good n)
-accepted-part s t c Section.B a = (c .rows .buses, a .body .buses)
-accepted-part s t c Section.R a = (c .rows .slacks, a .body .slacks)
-accepted-part s t c Section.G a = (c .rows .generators, a .body .generators)
-accepted-part s t c Section.L a = (c .rows .branches, a .body .branches)
-accepted-part s t c Section.Y a = (c .rows .triplets, a .body .triplets)
+accepted-part : (e : Edition) (s : List ℕ) (t : ℕ) (c : Contents) (z : Section) → Has e z → Accepted e s t c → (n : ℕ) × (partOf z s t ≡ Check.Good n)
+accepted-part e s t c Section.B h a = (c .rows .buses, a .body .buses)
+accepted-part e s t c Section.R h a = (c .rows .slacks, a .body .slacks)
+accepted-part e s t c Section.G h a = (c .rows .generators, a .body .generators)
+accepted-part First s t c Section.L h a = (c .rows .branches, a .body .branches)
+accepted-part First s t c Section.Y h a = (c .rows .triplets, a .body .triplets)
+accepted-part First s t c Section.K h a = absurd h
+accepted-part Second s t c Section.L h a = absurd h
+accepted-part Second s t c Section.Y h a = absurd h
+accepted-part Second s t c Section.K h a = (c .rows .branches, a .body .branches)
 
 -- every figure that is read of an accepted text is the double nearest to the decimal that stands in its line; `?` stands for none
-pub text-figures : (s : List ℕ) (c : Contents) → textOf s ≡ Reading.Good c → (z : Section) (k j : ℕ) → let l = bytesOf z s (trailerStart s) in
+pub text-figures : (e : Edition) (s : List ℕ) (c : Contents) → checkedText e s ≡ Reading.Good c → (z : Section) → Has e z → (k j : ℕ) → let l = bytesOf z s (trailerStart e s) in
     k < rowCount l → j < fieldCount z → Reals (wantOf z j) → let f = cellOf j (getD (rowsOf l) k []) in only 63 f ≡ false
     → NearestDouble (realField j (getD (rowsOf l) k [])) (hasMinus f) (numerator f) (denominator f)
-text-figures s c h z k j p g r q =
-    let t = trailerStart s in
-    let part = accepted-part s t c z (accepted-has s c h) in
+text-figures e s c h z has k j p g r q =
+    let t = trailerStart e s in
+    let part = accepted-part e s t c z has (accepted-has e s c h) in
     figure-nearest z (bytesOf z s t) (fields-sound s t (part .0) z (part .1)) k j p g r q

@@ -1,7 +1,8 @@
 -- The turns of the loop over a trailer's groups; what a good trailer of k groups says, and that its numbers rise to its own start; where the
 -- sections lie; and that a text of the second edition has no first-edition trailer. Assumes nothing.
 use mathlib.Core.Path.{_≡_, refl, sym, _∙_}
-use mathlib.Core.Bool.{true, false, and-false}
+use mathlib.Core.Bool.{Bool, true, false, _&&_, and-false}
+use mathlib.Core.Logic.{⊎-elim}
 use mathlib.Core.List.{List}
 use Prim.Native.Nat.{ℕ, zero, suc, _+_, _-_, _*_, _≤_, _<_}
 use native.Mathlib.Nat.{add-zero}
@@ -10,7 +11,7 @@ use native.Mathlib.Omega.{arith}
 use lib.Dec.{eqb, leb}
 use lib.ListN.{length, getD}
 use borrow.Author.Tests.{eqb-true, leb-true, le-leb, lt-leb}
-use Rattle.real.specs.Tests.{and-left, and-right}
+use Rattle.real.specs.Tests.{and-left, and-right, decided, no-case}
 use Rattle.fields.specs.Digits.{isNumber}
 use Rattle.fields.specs.declared.Digits.{Digits}
 use Rattle.fields.specs.declared.Digits.the-variants as Digits
@@ -178,3 +179,14 @@ module _ (s : List ℕ) where
   pub edition-short : length s < trailerLength Second → editionOf s ≡ First
   unfolding editionOf
   edition-short h = rw (lt-leb _ _ h)
+
+  -- a text of the second edition has that letter
+  pub second-tells : editionOf s ≡ Second → (trailerLength Second ≤ length s) × (flagged Second letter ≡ true)
+  unfolding editionOf
+  second-tells h = ⊎-elim (λ q. (leb-true _ _ (and-left _ _ q), and-right (leb (trailerLength Second) (length s)) _ q)) other (decided test)
+    where
+      test : Bool
+      test = leb (trailerLength Second) (length s) && flagged Second letter
+
+      other : test ≡ false → (trailerLength Second ≤ length s) × (flagged Second letter ≡ true)
+      other q = let k : First ≡ Second = rw q at h in no-case cc
