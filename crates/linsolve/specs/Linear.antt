@@ -2,6 +2,7 @@
 -- 01 gives an order of work, so each definition counts down what is left of it: the first number is how many rows or columns are left,
 -- the second where they begin, and what comes after them stands in the clause of zero. Linear/Laws.antt says what follows.
 pub mod Laws
+pub mod Space
 use Prim.Native.Nat.{ℕ, zero, suc, _+_, _-_, _*_}
 use mathlib.Core.Bool.{cond}
 use mathlib.Core.List.{List}
