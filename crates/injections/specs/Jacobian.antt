@@ -1,6 +1,7 @@
 -- 01, "Jacobian": as `ac_jacobian`. Each triplet in order gives the derivatives of the power at its row by the angle and by the magnitude at its
 -- column, and adds up to four entries to the matrix. Each product binds to the left, as the Rust's operators do.
 pub mod Laws
+pub mod Space
 use Prim.Native.Nat.{ℕ, zero, suc}
 use mathlib.Core.Bool.{cond}
 use mathlib.Core.List.{List}
