@@ -1,6 +1,7 @@
 -- 01, "Newton": at most 50 steps; each tries 12 lengths from 1, halving. A trial is taken only if its norm is strictly lower. Iterations equal
 -- accepted steps, except that 50 reads 49. The workspace goes through all of it, so that its places are known at the end too.
 pub mod Laws
+pub mod Space
 use Prim.Native.Nat.{ℕ, zero, suc, _+_, _≤_}
 use mathlib.Core.Bool.{true, false, cond}
 use mathlib.Core.List.{List}

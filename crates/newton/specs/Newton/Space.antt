@@ -1,0 +1,127 @@
+-- What stood in a lent workspace cannot show: Newton's steps clear it before they read it. Assumes nothing.
+use Prim.Native.Nat.{ℕ, zero, suc, _+_, _≤_, _<_}
+use mathlib.Core.Bool.{Bool, true, false, cond}
+use mathlib.Core.List.{List}
+use mathlib.Core.Path.{_≡_, refl}
+use native.Mathlib.Omega.{arith}
+use borrow.Author.Tests.{ltb-true}
+use lib.Dec.{ltb}
+use lib.ListN.{getD}
+use lib.Ieee.{Float, nan, binary64, add, mul, lt}
+use Rattle.real.specs.Literals.{one, half, tolerance}
+use Rattle.layout.specs.declared.BusKind.{BusKind}
+use Rattle.layout.specs.declared.BusKind.the-variants.{Slack, Pv, Pq}
+use Rattle.layout.specs.declared.AcPfLayout.{AcPfLayout}
+use Rattle.layout.specs.declared.Point.{Point}
+use Rattle.layout.specs.Table.Laws.{stores-ext}
+use Rattle.layout.specs.Layout.{none, kindOf, layoutOf}
+use Rattle.layout.specs.Layout.Laws.{va-at, vm-at, dim-counts, dim-most, angle-below, magnitude-below}
+use Rattle.linsolve.specs.declared.Solution.the-variants as Solution
+use Rattle.linsolve.specs.Linear.{Outcome, answerOf, spaceOf}
+use Rattle.linsolve.specs.Linear.Space as Linear
+use Rattle.linsolve.specs.Linear.Space.{Alike, AlikeOutcomes, alike-outcomes, cleared-alike, sides-alike, solution-space}
+use Rattle.network.specs.Network.{Triplets}
+use Rattle.injections.specs.Jacobian.Space.{jacobian-space}
+use Rattle.newton.specs.declared.Measured.{Measured}
+use Rattle.newton.specs.declared.Trial.{Trial}
+use Rattle.newton.specs.declared.Ended.{Ended}
+use Rattle.newton.specs.declared.Ending.the-variants.{Singular, Stuck}
+use Rattle.newton.specs.Step.{movedBy, stepOf}
+use Rattle.newton.specs.Newton.{Problem, measuredOf, directionOf, attemptOf, triesFrom, Run, run, ended, bySolution, stepsFrom, newtonOf}
+
+-- two workspaces of one length, with room for a matrix and its right sides
+abbrev pub Lent : List Float → List Float → Type 0
+Lent = Linear.Lent
+
+-- one end, and workspaces of one length
+pub data AlikeRuns : Run → Run → Type 0 where
+  alike-runs : {e : Ended} {w v : List Float} → Lent w v → AlikeRuns (run e w) (run e v)
+
+-- a column that there is, is one of the matrix
+abbrev Column : AcPfLayout → ℕ → Type 0
+Column l c = c < none → c < l .dim
+
+-- the matrix fits, and the buses' columns are its own
+pub record Inside (l : AcPfLayout) : Type 0 where
+  pub small : l .dim ≤ 64
+  pub angle : (b : ℕ) → b < l .n → Column l (getD (l .«va_of») b 0)
+  pub magnitude : (b : ℕ) → b < l .n → Column l (getD (l .«vm_of») b 0)
+
+-- so it is of every layout of kinds
+pub layout-inside : (n : ℕ) (kinds : List BusKind) → n ≤ 32 → Inside (layoutOf n kinds)
+unfolding layoutOf
+layout-inside n kinds few = record { small = dim-most n kinds few; angle = λ b h. angle b h (kindOf kinds b) refl; magnitude = λ b h. magnitude b h (kindOf kinds b) refl }
+  where
+    angle : (b : ℕ) → b < n → (k : BusKind) → kindOf kinds b ≡ k → Column (layoutOf n kinds) (getD (layoutOf n kinds .«va_of») b 0)
+    angle b h Slack e c = absurd (omega (arith, rw e at (va-at n kinds b h few)))
+    angle b h Pv e c = omega (arith, dim-counts n kinds, angle-below n kinds few _ b (h, rw e, refl))
+    angle b h Pq e c = omega (arith, dim-counts n kinds, angle-below n kinds few _ b (h, rw e, refl))
+
+    magnitude : (b : ℕ) → b < n → (k : BusKind) → kindOf kinds b ≡ k → Column (layoutOf n kinds) (getD (layoutOf n kinds .«vm_of») b 0)
+    magnitude b h Slack e c = absurd (omega (arith, rw e at (vm-at n kinds b h few)))
+    magnitude b h Pv e c = absurd (omega (arith, rw e at (vm-at n kinds b h few)))
+    magnitude b h Pq e c = magnitude-below n kinds few _ b (h, rw e, refl)
+
+module _ (l : AcPfLayout) (i : Inside l) where
+  -- ---- the direction
+
+  direction-space : (y : Triplets) (va : List Float) (m : Measured) {w v : List Float} → Lent w v → AlikeOutcomes (l .dim) (directionOf y l va m w) (directionOf y l va m v)
+  unfolding directionOf
+  direction-space y va m a = solution-space (sides-alike (jacobian-space y va (m .phasors) l (cleared-alike (l .dim) _ _ (i .small) a)) (l .dim) _ _ (λ r h. refl))
+
+  -- ---- the length, of which only the right sides are read
+
+  module _ {w v : List Float} (a : Alike (l .dim) w v) where
+    moved-alike : (x : Float) (c : ℕ) (alpha : Float) → Column l c → movedBy x c alpha w ≡ movedBy x c alpha v
+    unfolding movedBy
+    moved-alike x c alpha h = go (ltb c none) refl
+      where
+        go : (t : Bool) → ltb c none ≡ t
+            → cond t (add binary64 x (mul binary64 alpha (getD w (4096 + c) nan))) x ≡ cond t (add binary64 x (mul binary64 alpha (getD v (4096 + c) nan))) x
+        go true e = rw (a .side c (h (ltb-true c none e)))
+        go false e = refl
+
+    step-alike : (p : Point) (alpha : Float) → stepOf l p w alpha ≡ stepOf l p v alpha
+    unfolding stepOf
+    step-alike p alpha = λ j.
+        record {
+          vm = stores-ext _ _ (l .n) (p .vm) (λ b h. moved-alike (getD (p .vm) b nan) (getD (l .«vm_of») b 0) alpha (i .magnitude b h)) j;
+          va = stores-ext _ _ (l .n) (p .va) (λ b h. moved-alike (getD (p .va) b nan) (getD (l .«va_of») b 0) alpha (i .angle b h)) j;
+        }
+
+    tries-alike : (k : ℕ) (at : Point → Measured) (p : Point) (m : Measured) (alpha : Float) → triesFrom k at l p m w alpha ≡ triesFrom k at l p m v alpha
+    unfolding triesFrom attemptOf
+    tries-alike zero at p m alpha = refl
+    tries-alike (suc k) at p m alpha = rw (step-alike p alpha, tries-alike k at p m (mul binary64 alpha half))
+
+  -- ---- the steps
+
+  either : (b : Bool) {r q s u : Run} → AlikeRuns r q → AlikeRuns s u → AlikeRuns (cond b r s) (cond b q u)
+  either true h k = h
+  either false h k = k
+
+  steps-space : (k it : ℕ) (at : Point → Measured) (y : Triplets) (p : Point) (m : Measured) {w v : List Float} → Lent w v
+      → AlikeRuns (stepsFrom k it at y l p m w) (stepsFrom k it at y l p m v)
+  unfolding stepsFrom
+  steps-space zero it at y p m a = alike-runs a
+  steps-space (suc k) it at y p m a =
+      either (lt (m .residual) tolerance) (alike-runs a) (go (direction-space y (p .va) m a) (λ t x z b. steps-space k (it + 1) at y (t .point) (t .at) b))
+    where
+      goes : Outcome → Run
+      goes o =
+          let t = triesFrom 12 at l p m (spaceOf o) one in
+          bySolution (answerOf o) (λ c. run (ended p it m (Singular c)) (spaceOf o))
+          (cond (t .taken) (stepsFrom k (it + 1) at y l (t .point) (t .at) (spaceOf o)) (run (ended p it m Stuck) (spaceOf o)))
+
+      go : {o q : Outcome} → AlikeOutcomes (l .dim) o q
+          → ((t : Trial) (x z : List Float) → Lent x z → AlikeRuns (stepsFrom k (it + 1) at y l (t .point) (t .at) x) (stepsFrom k (it + 1) at y l (t .point) (t .at) z))
+          → AlikeRuns (goes o) (goes q)
+      go (alike-outcomes {s = Solution.Singular c} b) rest = alike-runs (b .lent)
+      go (alike-outcomes {s = Solution.Solved} {w = x} {v = z} b) rest =
+          let t = triesFrom 12 at l p m z one in
+          rw (tries-alike b 12 at p m one) (either (t .taken) (rest t x z (b .lent)) (alike-runs (b .lent)))
+
+-- Newton's end does not depend on what stood in the workspace
+pub newton-space : (g : Problem) → Inside (g .layout) → (p : Point) {w v : List Float} → Lent w v → AlikeRuns (newtonOf g p w) (newtonOf g p v)
+unfolding newtonOf
+newton-space g i p a = steps-space (g .layout) i 50 0 (measuredOf g) (g .y) p (measuredOf g p) a
