@@ -2,6 +2,7 @@
 -- kinds given are those Newton used.
 pub mod Laws
 pub mod Unread
+pub mod Space
 use Prim.Native.Nat.{ℕ, zero, suc, _≤_}
 use mathlib.Core.Bool.{false, cond}
 use mathlib.Core.List.{List}

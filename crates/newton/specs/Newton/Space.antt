@@ -29,6 +29,11 @@ use Rattle.newton.specs.declared.Ending.the-variants.{Singular, Stuck}
 use Rattle.newton.specs.Step.{movedBy, stepOf}
 use Rattle.newton.specs.Newton.{Problem, measuredOf, directionOf, attemptOf, triesFrom, Run, run, ended, bySolution, stepsFrom, newtonOf}
 
+-- what holds of two pairs holds of the pair that a test picks
+pub either : {A : Type 0} (P : A → A → Type 0) (b : Bool) {x y z u : A} → P x y → P z u → P (cond b x z) (cond b y u)
+either P true h k = h
+either P false h k = k
+
 -- two workspaces of one length, with room for a matrix and its right sides
 abbrev pub Lent : List Float → List Float → Type 0
 Lent = Linear.Lent
@@ -96,16 +101,12 @@ module _ (l : AcPfLayout) (i : Inside l) where
 
   -- ---- the steps
 
-  either : (b : Bool) {r q s u : Run} → AlikeRuns r q → AlikeRuns s u → AlikeRuns (cond b r s) (cond b q u)
-  either true h k = h
-  either false h k = k
-
   steps-space : (k it : ℕ) (at : Point → Measured) (y : Triplets) (p : Point) (m : Measured) {w v : List Float} → Lent w v
       → AlikeRuns (stepsFrom k it at y l p m w) (stepsFrom k it at y l p m v)
   unfolding stepsFrom
   steps-space zero it at y p m a = alike-runs a
   steps-space (suc k) it at y p m a =
-      either (lt (m .residual) tolerance) (alike-runs a) (go (direction-space y (p .va) m a) (λ t x z b. steps-space k (it + 1) at y (t .point) (t .at) b))
+      either AlikeRuns (lt (m .residual) tolerance) (alike-runs a) (go (direction-space y (p .va) m a) (λ t x z b. steps-space k (it + 1) at y (t .point) (t .at) b))
     where
       goes : Outcome → Run
       goes o =
@@ -119,7 +120,7 @@ module _ (l : AcPfLayout) (i : Inside l) where
       go (alike-outcomes {s = Solution.Singular c} b) rest = alike-runs (b .lent)
       go (alike-outcomes {s = Solution.Solved} {w = x} {v = z} b) rest =
           let t = triesFrom 12 at l p m z one in
-          rw (tries-alike b 12 at p m one) (either (t .taken) (rest t x z (b .lent)) (alike-runs (b .lent)))
+          rw (tries-alike b 12 at p m one) (either AlikeRuns (t .taken) (rest t x z (b .lent)) (alike-runs (b .lent)))
 
 -- Newton's end does not depend on what stood in the workspace
 pub newton-space : (g : Problem) → Inside (g .layout) → (p : Point) {w v : List Float} → Lent w v → AlikeRuns (newtonOf g p w) (newtonOf g p v)
