@@ -1,6 +1,7 @@
 -- 01, "Starts": case first if chosen, then flat, then four perturbed. Kept: the first, then any non-NaN result that is smaller or follows a NaN. The first
 -- below 1e-8 ends the search.
 pub mod Laws
+pub mod Space
 use Prim.Native.Nat.{ℕ, zero, suc, _+_}
 use mathlib.Core.Bool.{Bool, true, false, cond}
 use mathlib.Core.List.{List}

@@ -2,6 +2,7 @@
 pub mod Laws
 pub mod Withheld
 pub mod Pinned
+pub mod Space
 use Prim.Native.Nat.{ℕ}
 use mathlib.Core.List.{List}
 use lib.ListN.{getD}
