@@ -2,6 +2,7 @@
 -- included.
 pub mod Laws
 pub mod Withheld
+pub mod Space
 use Prim.Native.Nat.{ℕ, _≤_}
 use mathlib.Core.Bool.{Bool, cond}
 use mathlib.Core.List.{List, [], _∷_}
