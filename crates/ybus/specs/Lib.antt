@@ -1,0 +1,4 @@
+pub mod Branch
+pub mod Fault
+pub mod Listed
+pub mod Ybus
