@@ -12,7 +12,7 @@ returns c =
     let e = d .before .before .before in
     let s = e .before .before in
     let t = s .before .before in
-    rw (
+    simp (
       c .scaled4 .ensures,
       c .before .sum2 .ensures,
       c .before .before .scaled3 .ensures,
