@@ -72,6 +72,8 @@ fn put_outcome(
             Value::Whole(field),
             out,
         ),
+        Outcome::Tap { row } => lines::put_one(14, Value::Whole(row), out),
+        Outcome::Ends { row } => lines::put_one(15, Value::Whole(row), out),
         Outcome::NotConverged { mismatch, starts } => lines::put_two(
             10,
             Value::Real(mismatch),

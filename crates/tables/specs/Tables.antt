@@ -34,7 +34,7 @@ use Rattle.pf_ac.specs.WithStart.{acPfOf}
 use Rattle.tables.specs.declared.Checked.{Checked}
 use Rattle.tables.specs.declared.Checked.the-variants as Checked
 use Rattle.tables.specs.declared.Outcome.{Outcome}
-use Rattle.tables.specs.declared.Outcome.the-variants.{Solved, Counts, Room, Slack, Generator, Branch, Triplet, NotConverged}
+use Rattle.tables.specs.declared.Outcome.the-variants.{Solved, Counts, Room, Slack, Generator, Branch, Triplet, Tap, Ends, NotConverged}
 
 -- ---- the answer on paper
 
@@ -51,6 +51,8 @@ paperOf (Slack row) = refused 8 (Whole row ∷ [])
 paperOf (Generator row) = refused 11 (Whole row ∷ [])
 paperOf (Branch row field) = refused 12 (Whole row ∷ Whole field ∷ [])
 paperOf (Triplet row field) = refused 13 (Whole row ∷ Whole field ∷ [])
+paperOf (Tap row) = refused 14 (Whole row ∷ [])
+paperOf (Ends row) = refused 15 (Whole row ∷ [])
 paperOf (NotConverged mismatch starts) = refused 10 (Real mismatch ∷ Whole starts ∷ [])
 
 -- the answer columns

@@ -12,14 +12,15 @@ ghost use lib.ListN.{length, getD};
 ghost use mathlib.Core.List.{List};
 ghost use lib.Ieee.{Float, nan};
 ghost use Rattle.layout.specs.Table.{stores};
-ghost use Rattle.network.specs.Network.{Network, Triplets, busesOf, slacksOf, generatorsOf, branchesOf, tripletsOf, networkOf};
+ghost use Rattle.network.specs.Network.{Network, Triplets, busCount, busesOf, slacksOf, generatorsOf, branchesOf, tripletsOf, networkOf};
 ghost use Rattle.network.specs.Checks.{WellIndexed};
 ghost use Rattle.injections.specs.Injections.{GoodTriplets};
 ghost use Rattle.tables.specs.Tables.{Outs, outs, OnePerBus, lengthsOf, lengthsIn, roomy, rowRefusal, busRefusal, checkedOf, withAnswer, written, writeOf};
-ghost use Rattle.tables.specs.Tables.{zeros, ran, runOf, paperOf, answer, solveOf};
+ghost use Rattle.tables.specs.Tables.{zeros, ran, runOf, paperOf, answer, afterRun, solveOf};
 
-// What the call answers. Each refusal is one of the papers': Counts is 7, Room 9, Slack 8, Generator 11, Branch 12, Triplet 13, NotConverged 10. A row
-// is the lowest of its table that names a missing bus, a field the first of that row, 0 or 1.
+// What the calls answer. Each refusal is one of the papers': Counts is 7, Room 9, Slack 8, Generator 11, Branch 12, Triplet 13, Tap 14, Ends 15,
+// NotConverged 10. A row is the lowest of its table that is at fault, a field the first of that row that names a missing bus, 0 or 1. Triplet is for tables
+// with triplets alone, Tap and Ends for tables of branches.
 pub enum Outcome {
     Solved { iterations: usize, residual: f64 },
     Counts,
@@ -28,6 +29,8 @@ pub enum Outcome {
     Generator { row: usize },
     Branch { row: usize, field: usize },
     Triplet { row: usize, field: usize },
+    Tap { row: usize },
+    Ends { row: usize },
     NotConverged { mismatch: f64, starts: usize },
 }
 
@@ -188,7 +191,7 @@ fn write(
     }
 }
 
-// ---- the call in three parts
+// ---- the call in parts
 
 // Refusals 7, 9, 8, 11, 12 and 13, in that order. The last six are the lengths of the answer columns and of the workspace.
 pub fn check(
@@ -321,6 +324,95 @@ pub fn run(
     r
 }
 
+// The answer to ready tables. The solve over branches ends with it too.
+pub fn solve_ready(
+    kind: &[u8],
+    vm_set: &[f64],
+    pd: &[f64],
+    qd: &[f64],
+    pg: &[f64],
+    qg: &[f64],
+    vm_case: &[f64],
+    va_case: &[f64],
+    slacks: &[usize],
+    va_slacks: &[f64],
+    gen_bus: &[usize],
+    qmin: &[f64],
+    qmax: &[f64],
+    br_from: &[usize],
+    br_to: &[usize],
+    y_row: &[usize],
+    y_col: &[usize],
+    y_re: &[f64],
+    y_im: &[f64],
+    start: AcStart,
+    vm: &mut [f64],
+    va: &mut [f64],
+    p: &mut [f64],
+    q: &mut [f64],
+    kinds: &mut [u8],
+    w: &mut [f64],
+) -> Outcome
+    ghost { Network × Outs × List Float }
+    requires { λ α. ⌜ (
+      networkOf
+          (busesOf (now kind) (now «vm_set») (now pd) (now qd) (now pg) (now qg) (now «vm_case») (now «va_case»))
+          (slacksOf (now slacks) (now «va_slacks»))
+          (generatorsOf (now «gen_bus») (now qmin) (now qmax))
+          (branchesOf (now «br_from») (now «br_to»))
+          (tripletsOf (now «y_row») (now «y_col») (now «y_re») (now «y_im»)),
+      outs (now vm) (now va) (now p) (now q) (now kinds),
+      now w,
+    ) ≡ α ⌝ }
+    requires { λ (t, o, space). ⌜ WellIndexed t × OnePerBus (busCount t) (lengthsIn o) × (6144 ≤ length space) ⌝ }
+    ensures { λ (t, o, space) r.
+        let e = outs (now (vm .exit)) (now (va .exit)) (now (p .exit)) (now (q .exit)) (now (kinds .exit)) in
+        ⌜ answer (paperOf r) e (now (w .exit)) ≡ afterRun t o (runOf start t space) ⌝ }
+{
+    let n = kind.len();
+    let r = run(
+        kind,
+        vm_set,
+        pd,
+        qd,
+        pg,
+        qg,
+        vm_case,
+        va_case,
+        slacks,
+        va_slacks,
+        gen_bus,
+        qmin,
+        qmax,
+        br_from,
+        br_to,
+        y_row,
+        y_col,
+        y_re,
+        y_im,
+        start,
+        w,
+    );
+    let found = r.found;
+    let point = r.best.ended.point;
+    let kept = r.best.kinds;
+    write(
+        n,
+        y_row,
+        y_col,
+        y_re,
+        y_im,
+        found,
+        point,
+        kept,
+        vm,
+        va,
+        p,
+        q,
+        kinds,
+    )
+}
+
 // ---- the call
 
 pub fn solve(
@@ -362,7 +454,6 @@ pub fn solve(
         let e = outs (now (vm .exit)) (now (va .exit)) (now (p .exit)) (now (q .exit)) (now (kinds .exit)) in
         ⌜ answer (paperOf r) e (now (w .exit)) ≡ solveOf start t o (now (w .entry)) ⌝ }
 {
-    let n = kind.len();
     let c = check(
         kind,
         vm_set,
@@ -391,49 +482,34 @@ pub fn solve(
         w.len(),
     );
     match c {
-        Checked::Ready => {
-            let r = run(
-                kind,
-                vm_set,
-                pd,
-                qd,
-                pg,
-                qg,
-                vm_case,
-                va_case,
-                slacks,
-                va_slacks,
-                gen_bus,
-                qmin,
-                qmax,
-                br_from,
-                br_to,
-                y_row,
-                y_col,
-                y_re,
-                y_im,
-                start,
-                w,
-            );
-            let found = r.found;
-            let point = r.best.ended.point;
-            let kept = r.best.kinds;
-            write(
-                n,
-                y_row,
-                y_col,
-                y_re,
-                y_im,
-                found,
-                point,
-                kept,
-                vm,
-                va,
-                p,
-                q,
-                kinds,
-            )
-        }
+        Checked::Ready => solve_ready(
+            kind,
+            vm_set,
+            pd,
+            qd,
+            pg,
+            qg,
+            vm_case,
+            va_case,
+            slacks,
+            va_slacks,
+            gen_bus,
+            qmin,
+            qmax,
+            br_from,
+            br_to,
+            y_row,
+            y_col,
+            y_re,
+            y_im,
+            start,
+            vm,
+            va,
+            p,
+            q,
+            kinds,
+            w,
+        ),
         Checked::Refused(r) => r,
     }
 }

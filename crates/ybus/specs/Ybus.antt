@@ -4,9 +4,10 @@
 pub mod Laws
 use Prim.Native.Nat.{ℕ, zero, suc, _+_, _*_, _≤_}
 use mathlib.Core.Bool.{Bool, cond}
+use mathlib.Core.Path.{_≡_}
 use mathlib.Core.List.{List}
 use lib.Dec.{eqb}
-use lib.ListN.{length, getD, replicate}
+use lib.ListN.{length, getD, take, replicate}
 use lib.Ieee.{nan}
 use Rattle.real.specs.Literals.{nought}
 use Rattle.complex.specs.declared.Complex.{Complex}
@@ -67,6 +68,17 @@ unfolding ybusOf
 entriesOf n t =
     let y = ybusOf n t in
     record { count = n + 2 * length (t .ends .from); row = places 0 (y .row); col = places 0 (y .col); re = places nought (y .re); im = places nought (y .im) }
+
+-- what a caller is given: 160 places in each column, no more entries than those, and the list in the first of them
+pub record Filled (y : Entries) : Type 0 where
+  pub few : y .count ≤ 160
+  pub row : length (y .row) ≡ 160
+  pub col : length (y .col) ≡ 160
+  pub re : length (y .re) ≡ 160
+  pub im : length (y .im) ≡ 160
+
+abbrev pub listIn : Entries → Triplets
+listIn y = tripletsOf (take (y .count) (y .row)) (take (y .count) (y .col)) (take (y .count) (y .re)) (take (y .count) (y .im))
 
 -- ---- the steps of the code
 

@@ -31,13 +31,20 @@ returns-7 : tie.Need-returns-7
 returns-7 c = let p = c .before .before in (rw (p .before .before .before .r5 .given .1) (p .put-two2 .ensures .0), omega (arith, p .put-two2 .ensures .1))
 
 returns-8 : tie.Need-returns-8
-returns-8 c = let p = c .before .before in (rw (p .before .before .before .r6 .given .1) (p .put-two3 .ensures .0), omega (arith, p .put-two3 .ensures .1))
+returns-8 c = let p = c .before .before in (rw (p .before .before .before .r6 .given .1) (p .put-one3 .ensures .0), omega (arith, p .put-one3 .ensures .1))
+
+returns-9 : tie.Need-returns-9
+returns-9 c = let p = c .before .before in (rw (p .before .before .before .r7 .given .1) (p .put-one4 .ensures .0), omega (arith, p .put-one4 .ensures .1))
+
+returns-10 : tie.Need-returns-10
+returns-10 c = let p = c .before .before in (rw (p .before .before .before .r8 .given .1) (p .put-two3 .ensures .0), omega (arith, p .put-two3 .ensures .1))
 
 pub put-outcome-spec : {M : Type 1} → statement M
 put-outcome-spec =
     tie.close
     (tie.spec (λ c. search needs) (λ c κs. search needs) (λ c κs. search needs) (λ c. search needs) (λ c κs. search needs) (λ c. search needs)
     (λ c κs. search needs) (λ c. search needs) (λ c κs. search needs) (λ c. search needs) (λ c κs. search needs) (λ c. search needs)
-    (λ c κs. search needs) (λ c. search needs) (λ c κs. search needs) (λ c. search needs) (λ c κs. search needs) (λ c. search needs) returns
-    (λ c. search needs) returns-2 (λ c. search needs) returns-3 (λ c. search needs) returns-4 (λ c. search needs) returns-5 (λ c. search needs)
-    returns-6 (λ c. search needs) returns-7 (λ c. search needs) returns-8)
+    (λ c κs. search needs) (λ c. search needs) (λ c κs. search needs) (λ c. search needs) (λ c κs. search needs) (λ c. search needs)
+    (λ c κs. search needs) (λ c. search needs) (λ c κs. search needs) (λ c. search needs) returns (λ c. search needs) returns-2 (λ c. search needs) returns-3
+    (λ c. search needs) returns-4 (λ c. search needs) returns-5 (λ c. search needs) returns-6 (λ c. search needs) returns-7 (λ c. search needs)
+    returns-8 (λ c. search needs) returns-9 (λ c. search needs) returns-10)

@@ -1,29 +1,22 @@
--- `tables::solve` meets its contract: what the checks tell is what the run and the writing ask for. Assumes nothing.
+-- `tables::solve` meets its contract: what the checks tell is what the rest asks for. Assumes nothing.
 use borrow.Author.Needs.{needs}
 use Rattle.network.specs.Checks.Laws.{well-indexed}
-use Rattle.pf_ac.specs.WithStart.Laws.{good-triplets}
 use Rattle.tables.specs.Tables.Laws.{met, one-per-bus, solve-ready, solve-refused}
 use Rattle.tables.proofs.solve.Statement.{statement}
 use Rattle.tables.proofs.solve.Tie as tie
 
-run-requires : tie.Need-run-requires
-run-requires c κs =
-    let e = c .before in
+solve-ready-requires : tie.Need-solve-ready-requires
+solve-ready-requires c κs =
+    let e = c .before .before .before .before .before .before in
     let m = met _ _ _ (rw (e .enum-told .given .1) at (e .before .before .check .ensures)) in
-    (well-indexed _ (m .is-counted) (m .none-missing), one-per-bus _ _ _ (m .is-roomy) .1)
-
-write-requires : tie.Need-write-requires
-write-requires c κs =
-    let e = c .before .before .before .before .before .before .before .before .before .before .before in
-    let m = met _ _ _ (rw (e .enum-told .given .1) at (e .before .before .check .ensures)) in
-    (good-triplets _ (well-indexed _ (m .is-counted) (m .none-missing)), one-per-bus _ _ _ (m .is-roomy) .0)
+    let room = one-per-bus _ _ _ (m .is-roomy) in
+    (well-indexed _ (m .is-counted) (m .none-missing), room .0, room .1)
 
 returns : tie.Need-returns
 returns c =
-    let w = c .before .before .before .before .before .before .before .before .before .before in
-    let r = w .before .before .before .before .before .before .before .before .before .before in
-    let e = r .before .before in
-    solve-ready _ _ _ _ _ (e .before .before .check .ensures) (e .enum-told .given .1) _ _ _ (r .run .ensures) (w .write .result) _ (w .write .ensures)
+    let r = c .before .before .before .before .before .before .before .before .before .before .before .before in
+    let e = r .before .before .before .before .before .before .before in
+    solve-ready _ _ _ _ _ (e .before .before .check .ensures) (e .enum-told .given .1) _ (r .solve-ready .ensures)
 
 returns-2 : tie.Need-returns-2
 returns-2 c = let m = c .before in solve-refused _ _ _ _ _ (m .before .before .check .ensures) _ (m .c .given .1)
@@ -31,5 +24,5 @@ returns-2 c = let m = c .before in solve-refused _ _ _ _ _ (m .before .before .c
 pub solve-spec : {M : Type 1} → statement M
 solve-spec =
     tie.close
-    (tie.spec (λ c κs. search needs) (λ c. search needs) run-requires write-requires (λ c. search needs) (λ c. search needs) (λ c. search needs)
+    (tie.spec (λ c κs. search needs) (λ c. search needs) solve-ready-requires (λ c. search needs) (λ c. search needs) (λ c. search needs)
     (λ c. search needs) (λ c. search needs) (λ c. search needs) (λ c. search needs) returns returns-2)

@@ -15,8 +15,10 @@ use Rattle.real.specs.declared.Value.{Value}
 use Rattle.real.specs.declared.Value.the-variants.{Whole, Real}
 use Rattle.real.specs.Paper.{placeIn, Paper, given, refused}
 use Rattle.network.specs.Network.{Triplets, Network, busCount}
-use Rattle.network.specs.Checks.{counted}
+use Rattle.network.specs.Checks.{counted, WellIndexed}
+use Rattle.network.specs.Checks.Laws.{sized-counted}
 use Rattle.network.specs.Missing.{missingIn}
+use Rattle.network.specs.Missing.Laws.{means-missing}
 use Rattle.network.specs.declared.MissingBus.{MissingBus}
 use Rattle.network.specs.declared.MissingBus.the-variants as MissingBus
 use Rattle.layout.specs.declared.Point.{Point}
@@ -34,8 +36,8 @@ use Rattle.pf_ac.specs.WithStart.{acPfOf}
 use Rattle.tables.specs.declared.Checked.{Checked}
 use Rattle.tables.specs.declared.Checked.the-variants as Checked
 use Rattle.tables.specs.declared.Outcome.{Outcome}
-use Rattle.tables.specs.declared.Outcome.the-variants.{Solved, Counts, Room, Slack, Generator, Branch, Triplet, NotConverged}
-use Rattle.tables.specs.Tables.{paperOf, Answer, Outs, outs, Lengths, lengthsIn, OnePerBus, roomy, rowRefusal, busRefusal, checkedOf, withAnswer, written, writeOf, zeros, ran, runOf, answer, solveOf}
+use Rattle.tables.specs.declared.Outcome.the-variants.{Solved, Counts, Room, Slack, Generator, Branch, Triplet, Tap, Ends, NotConverged}
+use Rattle.tables.specs.Tables.{paperOf, Answer, Outs, outs, Lengths, lengthsIn, OnePerBus, roomy, rowRefusal, busRefusal, checkedOf, withAnswer, written, writeOf, zeros, ran, runOf, answer, afterRun, solveOf}
 
 -- ---- the checks
 
@@ -68,6 +70,13 @@ module _ (t : Network) (m : Lengths) (space : ℕ) where
       go true true (MissingBus.At table row field) p q r = let k : Checked.Ready ≡ Checked.Refused (rowRefusal table row field) = rw (p, q, r) at e in no-case cc
       go true false c p q r = let k : Checked.Ready ≡ Checked.Refused Room = rw (p, q) at e in no-case cc
       go false b c p q r = let k : Checked.Ready ≡ Checked.Refused Counts = rw p at e in no-case cc
+
+  -- and where they are, the tables are ready
+  pub met-ready : WellIndexed t → roomy (busCount t) m space ≡ true → Checked.Ready ≡ checkedOf t m space
+  met-ready h hr =
+      let none = means-missing t (h .branches .to) (h .triplets .col) MissingBus.Nowhere
+      (((h .slack-bus, h .generator-bus), h .branch-from, h .branch-to), h .triplet-row, h .triplet-col) in
+      ap busRefusal none ∙ check-buses (sized-counted t (h .buses) (h .slacks) (h .generators) (h .branches) (h .triplets)) hr
 
 pub one-per-bus : (n : ℕ) (m : Lengths) (space : ℕ) → roomy n m space ≡ true → OnePerBus n m × (6144 ≤ space)
 unfolding roomy
@@ -113,15 +122,19 @@ answer-written n y point kept o found ef letters el vm va p q kinds em ea ep eq 
 
 -- ---- the call
 
+pub ready-answer : (start : AcStart) (t : Network) (o : Outs) (w : List Float) (found : AcPf) (best : Settled) (v : List Float) → ran found best v ≡ runOf start t w
+    → (r : Outcome) (e : Outs) → written (paperOf r) e ≡ writeOf (busCount t) (t .triplets) found (best .ended .point) (best .kinds) o
+    → answer (paperOf r) e v ≡ afterRun t o (runOf start t w)
+ready-answer start t o w found best v er r e ew = rw (← er, ← ew)
+
 module _ (start : AcStart) (t : Network) (o : Outs) (w : List Float) (c : Checked) (h : c ≡ checkedOf t (lengthsIn o) (length w)) where
   pub solve-refused : (r : Outcome) → c ≡ Checked.Refused r → answer (paperOf r) o w ≡ solveOf start t o w
   unfolding solveOf
   solve-refused r e = rw (← h, e)
 
-  pub solve-ready : c ≡ Checked.Ready → (found : AcPf) (best : Settled) (v : List Float) → ran found best v ≡ runOf start t w → (r : Outcome) (e : Outs)
-      → written (paperOf r) e ≡ writeOf (busCount t) (t .triplets) found (best .ended .point) (best .kinds) o → answer (paperOf r) e v ≡ solveOf start t o w
+  pub solve-ready : c ≡ Checked.Ready → (a : Answer) → a ≡ afterRun t o (runOf start t w) → a ≡ solveOf start t o w
   unfolding solveOf
-  solve-ready k found best v er r e ew = rw (← h, k, ← er, ← ew)
+  solve-ready k a e = rw (← h, k) e
 
 -- ---- the contract fixes everything
 
@@ -144,7 +157,8 @@ back (refused n values) =
     (cond (eqb n 8) (Slack (placeIn values))
     (cond (eqb n 11) (Generator (placeIn values))
     (cond (eqb n 12) (Branch (placeIn values) (second values))
-    (cond (eqb n 13) (Triplet (placeIn values) (second values)) (spent values))))))
+    (cond (eqb n 13) (Triplet (placeIn values) (second values))
+    (cond (eqb n 14) (Tap (placeIn values)) (cond (eqb n 15) (Ends (placeIn values)) (spent values))))))))
 
 back-paper : (r : Outcome) → back (paperOf r) ≡ r
 back-paper (Solved i x) = refl
@@ -154,14 +168,21 @@ back-paper (Slack row) = refl
 back-paper (Generator row) = refl
 back-paper (Branch row field) = refl
 back-paper (Triplet row field) = refl
+back-paper (Tap row) = refl
+back-paper (Ends row) = refl
 back-paper (NotConverged m k) = refl
 
 pub paper-one : (r s : Outcome) → paperOf r ≡ paperOf s → r ≡ s
 paper-one r s e = sym (back-paper r) ∙ ap back e ∙ back-paper s
 
--- two outcomes that meet the call's contract are equal, lent memory included
+-- two outcomes with one answer are equal, lent memory included
+pub answer-one : (a : Answer) (r s : Outcome) (o₁ o₂ : Outs) (w₁ w₂ : List Float)
+    → answer (paperOf r) o₁ w₁ ≡ a → answer (paperOf s) o₂ w₂ ≡ a → (r ≡ s) × (o₁ ≡ o₂) × (w₁ ≡ w₂)
+answer-one a r s o₁ o₂ w₁ w₂ h k =
+    let e = h ∙ sym k in
+    (paper-one r s (ap (λ (b : Answer). b .paper) e), ap (λ (b : Answer). b .columns) e, ap (λ (b : Answer). b .space) e)
+
+-- so two that meet the call's contract are
 pub solve-one : (start : AcStart) (t : Network) (o : Outs) (w : List Float) (r s : Outcome) (o₁ o₂ : Outs) (w₁ w₂ : List Float)
     → answer (paperOf r) o₁ w₁ ≡ solveOf start t o w → answer (paperOf s) o₂ w₂ ≡ solveOf start t o w → (r ≡ s) × (o₁ ≡ o₂) × (w₁ ≡ w₂)
-solve-one start t o w r s o₁ o₂ w₁ w₂ h k =
-    let e = h ∙ sym k in
-    (paper-one r s (ap (λ (a : Answer). a .paper) e), ap (λ (a : Answer). a .columns) e, ap (λ (a : Answer). a .space) e)
+solve-one start t o w = answer-one (solveOf start t o w)

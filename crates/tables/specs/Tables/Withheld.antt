@@ -42,7 +42,7 @@ module _ (start : AcStart) (t u : Network) (a : Alike start t u) (o : Outs) (w :
   unfolding missingIn
   missing-same = λ i. missingBy (buses-same i) (a .slacks i .bus) (a .generators .bus i) (a .branches i .from) (a .branches i .to) (a .triplets i .row) (a .triplets i .col)
 
-  checked-same : checkedOf t (lengthsIn o) (length w) ≡ checkedOf u (lengthsIn o) (length w)
+  pub checked-same : checkedOf t (lengthsIn o) (length w) ≡ checkedOf u (lengthsIn o) (length w)
   unfolding checkedOf
   checked-same = rw (counted-same, buses-same, missing-same)
 
@@ -55,10 +55,14 @@ module _ (start : AcStart) (t u : Network) (a : Alike start t u) (o : Outs) (w :
   after-same (ran (AcPf.Solved it res) best v) = λ i. answer (ok it res) (withAnswer (buses-same i) (a .triplets i) (best .ended .point) (best .kinds) o) v
   after-same (ran (AcPf.NotConverged m k) best v) = refl
 
+  -- what is answered to ready tables
+  pub ready-same : busCount t ≤ 32 → afterRun t o (runOf start t w) ≡ afterRun u o (runOf start u w)
+  ready-same few = after-same (runOf start t w) ∙ ap (afterRun u o) (run-same few)
+
   pub solve-withheld : solveOf start t o w ≡ solveOf start u o w
   unfolding solveOf
   solve-withheld = go (checkedOf t (lengthsIn o) (length w)) refl ∙ ap (afterCheck start u o w) checked-same
     where
       go : (c : Checked) → c ≡ checkedOf t (lengthsIn o) (length w) → afterCheck start t o w c ≡ afterCheck start u o w c
-      go Checked.Ready e = after-same (runOf start t w) ∙ ap (afterRun u o) (run-same (buses-few t (met t (lengthsIn o) (length w) e .is-counted)))
+      go Checked.Ready e = ready-same (buses-few t (met t (lengthsIn o) (length w) e .is-counted))
       go (Checked.Refused r) e = refl

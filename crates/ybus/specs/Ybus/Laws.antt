@@ -8,7 +8,7 @@ use native.Mathlib.Numerals.{add-one}
 use native.Mathlib.Omega.{arith}
 use borrow.Author.Tests.{eqb-true, ne-eqb}
 use lib.Dec.{eqb}
-use lib.ListN.{length, set, take, replicate, length-replicate, length-append, length-drop}
+use lib.ListN.{length, set, replicate, length-replicate, length-append, length-drop}
 use lib.Seq.{take-at}
 use lib.Ieee.{nan}
 use Rattle.real.specs.Literals.{nought}
@@ -16,7 +16,7 @@ use Rattle.complex.specs.declared.Complex.{Complex}
 use Rattle.complex.specs.Numbers as Numbers
 use Rattle.complex.specs.Numbers.{sumOf}
 use Rattle.network.specs.Below.{Below}
-use Rattle.network.specs.Network.{Branches, Triplets, tripletsOf}
+use Rattle.network.specs.Network.{Branches, Triplets}
 use Rattle.network.specs.Checks.{SizedBranches}
 use Rattle.network.specs.BranchTable.{Values, BranchTable}
 use Rattle.layout.specs.Table.{table}
@@ -24,11 +24,10 @@ use Rattle.layout.specs.Table.Laws.{table-at, table-set, table-same, stores-ext
 use Rattle.injections.specs.Injections.{GoodTriplets, rowOf, colOf, entryOf}
 use Rattle.ybus.specs.declared.Admittance.{Admittance}
 use Rattle.ybus.specs.declared.Parts.{Parts}
-use Rattle.ybus.specs.declared.Entries.{Entries}
 use Rattle.ybus.specs.Branch.{fromOf, toOf, branchAt, admittanceOf, y-ft, y-tf}
 use Rattle.ybus.specs.Listed.{listed}
 use Rattle.ybus.specs.Listed.Laws.{Place, bus, first, second, place, length-listed, listed-bus, listed-first, listed-second, listed-ext, pairs-onto}
-use Rattle.ybus.specs.Ybus.{Fit, plus, diagonal, diagonalOf, ybusOf, places, entriesOf, nothing, admittancesOf, sumAt, admittanceAt, sumsTo, busColumn, diagonalParts, withBranches}
+use Rattle.ybus.specs.Ybus.{Fit, plus, diagonal, diagonalOf, ybusOf, places, entriesOf, Filled, listIn, nothing, admittancesOf, sumAt, admittanceAt, sumsTo, busColumn, diagonalParts, withBranches}
 
 -- ---- sums in a table
 
@@ -154,6 +153,13 @@ fit-ends fit =
 
 -- ---- what the list keeps
 
+-- bus b has exactly one diagonal entry: at place b
+pub record OneDiagonal (y : Triplets) (b : ℕ) : Type 0 where
+  pub inside : b < length (y .row)
+  pub row : rowOf y b ≡ b
+  pub col : colOf y b ≡ b
+  pub only : (i : ℕ) → i < length (y .row) → rowOf y i ≡ b → colOf y i ≡ b → i ≡ b
+
 module _ (n : ℕ) (t : BranchTable) (fit : Fit n t) where
   abbrev list : Triplets
   list = ybusOf n t
@@ -234,32 +240,41 @@ module _ (n : ℕ) (t : BranchTable) (fit : Fit n t) where
         cols-below = λ i h. ends-below i (place n m i (omega (arith, count-is, length-listed n (λ b. b) (toOf (t .ends)) (fromOf (t .ends)) m))) .1;
       }
 
-  -- each bus has a diagonal entry
-  pub has-diagonal : (b : ℕ) → b < n → (b < length (list .row)) × (rowOf list b ≡ b) × (colOf list b ≡ b)
-  has-diagonal b h = (omega (arith, count-is), row-bus b h .0, row-bus b h .1)
-
-  -- and, where no branch joins a bus to itself, no other: a place at which row and column are one bus is that bus's own
-  pub one-diagonal : ((k : ℕ) → k < length (t .ends .from) → fromOf (t .ends) k ≡ toOf (t .ends) k → ⊥)
+  -- where no branch joins a bus to itself, a place at which row and column are one bus is that bus's own
+  only-diagonal : ((k : ℕ) → k < length (t .ends .from) → fromOf (t .ends) k ≡ toOf (t .ends) k → ⊥)
       → (i b : ℕ) → i < length (list .row) → rowOf list i ≡ b → colOf list i ≡ b → i ≡ b
-  one-diagonal apart i b h er ec = go i (place n (length (t .ends .from)) i (rw count-is at h)) er ec
+  only-diagonal apart i b h er ec = go i (place n (length (t .ends .from)) i (rw count-is at h)) er ec
     where
       go : (i : ℕ) → Place n (length (t .ends .from)) i → rowOf list i ≡ b → colOf list i ≡ b → i ≡ b
       go i (bus l) r c = sym (row-bus i l .0) ∙ r
       go i (first k l e) r c = absurd (apart k l (sym (row-first k l .0) ∙ rw e at r ∙ sym (rw e at c) ∙ row-first k l .1))
       go i (second k l e) r c = absurd (apart k l (sym (row-second k l .1) ∙ rw e at c ∙ sym (rw e at r) ∙ row-second k l .0))
 
--- ---- what a caller of the building has
+  pub one-diagonal : ((k : ℕ) → k < length (t .ends .from) → fromOf (t .ends) k ≡ toOf (t .ends) k → ⊥) → (b : ℕ) → b < n → OneDiagonal list b
+  one-diagonal apart b h =
+      record { inside = omega (arith, count-is); row = row-bus b h .0; col = row-bus b h .1; only = λ i. only-diagonal apart i b }
+
+-- ---- what a caller of the building is given
 
 module _ {n : ℕ} {t : BranchTable} (fit : Fit n t) where
-  abbrev all : Entries
-  all = entriesOf n t
+  -- a column in 160 places
+  in-places : {A : Type 0} (z : A) (s : List A) → length s ≡ length (ybusOf n t .row) → length (places z s) ≡ 160
+  in-places z s e = let few = at-most n t fit in simp (length-append, length-drop, length-replicate) (omega arith)
 
-  pub entries-few : all .count ≤ 160
+  pub entries-filled : Filled (entriesOf n t)
   unfolding entriesOf
-  entries-few = omega (arith, fit .few, fit .ends .few)
+  entries-filled =
+      let good = list-good n t fit in
+      let l = ybusOf n t in
+      record {
+        few = omega (arith, fit .few, fit .ends .few);
+        row = in-places 0 (l .row) refl;
+        col = in-places 0 (l .col) (good .cols);
+        re = in-places nought (l .re) (good .res);
+        im = in-places nought (l .im) (good .ims);
+      }
 
-  -- the front of the columns is the list
-  pub entries-list : tripletsOf (take (all .count) (all .row)) (take (all .count) (all .col)) (take (all .count) (all .re)) (take (all .count) (all .im)) ≡ ybusOf n t
+  pub entries-list : listIn (entriesOf n t) ≡ ybusOf n t
   unfolding entriesOf
   entries-list =
       let good = list-good n t fit in
@@ -267,14 +282,3 @@ module _ {n : ℕ} {t : BranchTable} (fit : Fit n t) where
       let l = ybusOf n t in
       let k = n + 2 * length (t .ends .from) in
       rw (take-at (l .row) _ k size, take-at (l .col) _ k (good .cols ∙ size), take-at (l .re) _ k (good .res ∙ size), take-at (l .im) _ k (good .ims ∙ size))
-
-  -- 160 places in each
-  filled : {A : Type 0} (z : A) (s : List A) → length s ≡ length (ybusOf n t .row) → length (places z s) ≡ 160
-  filled z s e = let few = at-most n t fit in simp (length-append, length-drop, length-replicate) (omega arith)
-
-  pub entries-sizes : (length (all .row) ≡ 160) × (length (all .col) ≡ 160) × (length (all .re) ≡ 160) × (length (all .im) ≡ 160)
-  unfolding entriesOf
-  entries-sizes =
-      let good = list-good n t fit in
-      let l = ybusOf n t in
-      (filled 0 (l .row) refl, filled 0 (l .col) (good .cols), filled nought (l .re) (good .res), filled nought (l .im) (good .ims))
