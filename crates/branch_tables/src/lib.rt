@@ -1,0 +1,451 @@
+// The solve over tables of branches: the public call. The list of the admittance matrix's entries is built from the branches, and the tables with that list as
+// their triplets are solved as those of the first edition are.
+use starts::AcStart;
+use tables::Checked;
+use tables::Outcome;
+use ybus::Entries;
+use ybus::Fault;
+ghost use mathlib.Core.Path.{_≡_};
+ghost use Prim.Native.Nat.{_≤_};
+ghost use mathlib.Core.List.{List};
+ghost use lib.ListN.{length};
+ghost use lib.Ieee.{Float};
+ghost use Rattle.network.specs.Network.{Network, busCount, busesOf, slacksOf, generatorsOf, branchesOf, networkOf};
+ghost use Rattle.network.specs.Checks.{WellIndexed};
+ghost use Rattle.network.specs.BranchTable.{BranchNetwork, valuesOf, branchTableOf, branchNetworkOf, noTriplets};
+ghost use Rattle.ybus.specs.Ybus.{Filled, listIn};
+ghost use Rattle.tables.specs.Tables.{Outs, outs, OnePerBus, lengthsOf, lengthsIn, checkedOf, runOf, paperOf, answer, afterRun};
+ghost use Rattle.branch_tables.specs.BranchTables.{faultRefusal, checkedBranchesOf, builtNetwork, ReadyBranches, solveBranchesOf};
+
+// ---- the checks
+
+// The refusal of a branch at fault, or none: 14 or 15.
+fn fault_refusal(f: Fault) -> Checked
+    ensures { λ r. ⌜ r ≡ faultRefusal f ⌝ }
+{
+    match f {
+        Fault::Tap(row) => Checked::Refused(Outcome::Tap { row }),
+        Fault::Ends(row) => Checked::Refused(Outcome::Ends { row }),
+        Fault::Nothing => Checked::Ready,
+    }
+}
+
+// Refusals 7, 9, 8, 11 and 12 of tables without triplets.
+fn check_bare(
+    kind: &[u8],
+    vm_set: &[f64],
+    pd: &[f64],
+    qd: &[f64],
+    pg: &[f64],
+    qg: &[f64],
+    vm_case: &[f64],
+    va_case: &[f64],
+    slacks: &[usize],
+    va_slacks: &[f64],
+    gen_bus: &[usize],
+    qmin: &[f64],
+    qmax: &[f64],
+    from: &[usize],
+    to: &[usize],
+    vm: usize,
+    va: usize,
+    p: usize,
+    q: usize,
+    kinds: usize,
+    w: usize,
+) -> Checked
+    ensures { λ r.
+        let t = networkOf
+        (busesOf (now (kind .entry)) (now («vm_set» .entry)) (now (pd .entry)) (now (qd .entry)) (now (pg .entry)) (now (qg .entry)) (now («vm_case» .entry)) (now («va_case» .entry)))
+        (slacksOf (now (slacks .entry)) (now («va_slacks» .entry)))
+        (generatorsOf (now («gen_bus» .entry)) (now (qmin .entry)) (now (qmax .entry)))
+        (branchesOf (now (from .entry)) (now (to .entry))) noTriplets in
+        ⌜ r ≡ checkedOf t (lengthsOf vm va p q kinds) w ⌝ }
+{
+    tables::check(
+        kind,
+        vm_set,
+        pd,
+        qd,
+        pg,
+        qg,
+        vm_case,
+        va_case,
+        slacks,
+        va_slacks,
+        gen_bus,
+        qmin,
+        qmax,
+        from,
+        to,
+        &from[..0],
+        &from[..0],
+        &vm_set[..0],
+        &vm_set[..0],
+        vm,
+        va,
+        p,
+        q,
+        kinds,
+        w,
+    )
+}
+
+// The refusals before 10, in their order. The last six are the lengths of the answer columns and of the workspace.
+fn check_branches(
+    kind: &[u8],
+    vm_set: &[f64],
+    pd: &[f64],
+    qd: &[f64],
+    pg: &[f64],
+    qg: &[f64],
+    vm_case: &[f64],
+    va_case: &[f64],
+    slacks: &[usize],
+    va_slacks: &[f64],
+    gen_bus: &[usize],
+    qmin: &[f64],
+    qmax: &[f64],
+    from: &[usize],
+    to: &[usize],
+    g: &[f64],
+    b: &[f64],
+    g_fr: &[f64],
+    b_fr: &[f64],
+    g_to: &[f64],
+    b_to: &[f64],
+    tap: &[f64],
+    shift: &[f64],
+    sw: &[f64],
+    vm: usize,
+    va: usize,
+    p: usize,
+    q: usize,
+    kinds: usize,
+    w: usize,
+) -> Checked
+    ensures { λ r.
+        let t = branchNetworkOf
+        (busesOf (now (kind .entry)) (now («vm_set» .entry)) (now (pd .entry)) (now (qd .entry)) (now (pg .entry)) (now (qg .entry)) (now («vm_case» .entry)) (now («va_case» .entry)))
+        (slacksOf (now (slacks .entry)) (now («va_slacks» .entry)))
+        (generatorsOf (now («gen_bus» .entry)) (now (qmin .entry)) (now (qmax .entry)))
+        (branchTableOf (branchesOf (now (from .entry)) (now (to .entry)))
+        (valuesOf (now (g .entry)) (now (b .entry)) (now («g_fr» .entry)) (now («b_fr» .entry)) (now («g_to» .entry)) (now («b_to» .entry)) (now (tap .entry)) (now (shift .entry)) (now (sw .entry)))) in
+        ⌜ r ≡ checkedBranchesOf t (lengthsOf vm va p q kinds) w ⌝ }
+{
+    if !network::values_counted(from.len(), g, b, g_fr, b_fr, g_to, b_to, tap, shift, sw) {
+        return Checked::Refused(Outcome::Counts);
+    }
+    let c = check_bare(
+        kind,
+        vm_set,
+        pd,
+        qd,
+        pg,
+        qg,
+        vm_case,
+        va_case,
+        slacks,
+        va_slacks,
+        gen_bus,
+        qmin,
+        qmax,
+        from,
+        to,
+        vm,
+        va,
+        p,
+        q,
+        kinds,
+        w,
+    );
+    match c {
+        Checked::Ready => fault_refusal(ybus::branch_fault(from, to, tap)),
+        Checked::Refused(r) => Checked::Refused(r),
+    }
+}
+
+// ---- the solve of ready tables
+
+// With the list in the first places of the entries.
+fn solve_list(
+    kind: &[u8],
+    vm_set: &[f64],
+    pd: &[f64],
+    qd: &[f64],
+    pg: &[f64],
+    qg: &[f64],
+    vm_case: &[f64],
+    va_case: &[f64],
+    slacks: &[usize],
+    va_slacks: &[f64],
+    gen_bus: &[usize],
+    qmin: &[f64],
+    qmax: &[f64],
+    from: &[usize],
+    to: &[usize],
+    y: Entries,
+    start: AcStart,
+    vm: &mut [f64],
+    va: &mut [f64],
+    p: &mut [f64],
+    q: &mut [f64],
+    kinds: &mut [u8],
+    w: &mut [f64],
+) -> Outcome
+    ghost { Network × Outs × List Float }
+    requires { λ α. ⌜ (
+      networkOf
+          (busesOf (now kind) (now «vm_set») (now pd) (now qd) (now pg) (now qg) (now «vm_case») (now «va_case»))
+          (slacksOf (now slacks) (now «va_slacks»))
+          (generatorsOf (now «gen_bus») (now qmin) (now qmax))
+          (branchesOf (now from) (now to)) (listIn y),
+      outs (now vm) (now va) (now p) (now q) (now kinds),
+      now w,
+    ) ≡ α ⌝ }
+    requires { λ (t, o, space). ⌜ Filled y × WellIndexed t × OnePerBus (busCount t) (lengthsIn o) × (6144 ≤ length space) ⌝ }
+    ensures { λ (t, o, space) r.
+        let e = outs (now (vm .exit)) (now (va .exit)) (now (p .exit)) (now (q .exit)) (now (kinds .exit)) in
+        ⌜ answer (paperOf r) e (now (w .exit)) ≡ afterRun t o (runOf start t space) ⌝ }
+{
+    let k = y.count;
+    let row = y.row;
+    let col = y.col;
+    let re = y.re;
+    let im = y.im;
+    tables::solve_ready(
+        kind,
+        vm_set,
+        pd,
+        qd,
+        pg,
+        qg,
+        vm_case,
+        va_case,
+        slacks,
+        va_slacks,
+        gen_bus,
+        qmin,
+        qmax,
+        from,
+        to,
+        &row[..k],
+        &col[..k],
+        &re[..k],
+        &im[..k],
+        start,
+        vm,
+        va,
+        p,
+        q,
+        kinds,
+        w,
+    )
+}
+
+// With the list built from the branches.
+fn solve_built(
+    kind: &[u8],
+    vm_set: &[f64],
+    pd: &[f64],
+    qd: &[f64],
+    pg: &[f64],
+    qg: &[f64],
+    vm_case: &[f64],
+    va_case: &[f64],
+    slacks: &[usize],
+    va_slacks: &[f64],
+    gen_bus: &[usize],
+    qmin: &[f64],
+    qmax: &[f64],
+    from: &[usize],
+    to: &[usize],
+    g: &[f64],
+    b: &[f64],
+    g_fr: &[f64],
+    b_fr: &[f64],
+    g_to: &[f64],
+    b_to: &[f64],
+    tap: &[f64],
+    shift: &[f64],
+    sw: &[f64],
+    start: AcStart,
+    vm: &mut [f64],
+    va: &mut [f64],
+    p: &mut [f64],
+    q: &mut [f64],
+    kinds: &mut [u8],
+    w: &mut [f64],
+) -> Outcome
+    ghost { BranchNetwork × Outs × List Float }
+    requires { λ α. ⌜ (
+      branchNetworkOf
+          (busesOf (now kind) (now «vm_set») (now pd) (now qd) (now pg) (now qg) (now «vm_case») (now «va_case»))
+          (slacksOf (now slacks) (now «va_slacks»))
+          (generatorsOf (now «gen_bus») (now qmin) (now qmax))
+          (branchTableOf (branchesOf (now from) (now to))
+          (valuesOf (now g) (now b) (now «g_fr») (now «b_fr») (now «g_to») (now «b_to») (now tap) (now shift) (now sw))),
+      outs (now vm) (now va) (now p) (now q) (now kinds),
+      now w,
+    ) ≡ α ⌝ }
+    requires { λ (t, o, space). ⌜ ReadyBranches t (lengthsIn o) (length space) ⌝ }
+    ensures { λ (t, o, space) r.
+        let e = outs (now (vm .exit)) (now (va .exit)) (now (p .exit)) (now (q .exit)) (now (kinds .exit)) in
+        ⌜ answer (paperOf r) e (now (w .exit)) ≡ afterRun (builtNetwork t) o (runOf start (builtNetwork t) space) ⌝ }
+{
+    let y = ybus::build_ybus(
+        kind.len(),
+        from,
+        to,
+        g,
+        b,
+        g_fr,
+        b_fr,
+        g_to,
+        b_to,
+        tap,
+        shift,
+        sw,
+    );
+    solve_list(
+        kind,
+        vm_set,
+        pd,
+        qd,
+        pg,
+        qg,
+        vm_case,
+        va_case,
+        slacks,
+        va_slacks,
+        gen_bus,
+        qmin,
+        qmax,
+        from,
+        to,
+        y,
+        start,
+        vm,
+        va,
+        p,
+        q,
+        kinds,
+        w,
+    )
+}
+
+// ---- the call
+
+pub fn solve(
+    kind: &[u8],
+    vm_set: &[f64],
+    pd: &[f64],
+    qd: &[f64],
+    pg: &[f64],
+    qg: &[f64],
+    vm_case: &[f64],
+    va_case: &[f64],
+    slacks: &[usize],
+    va_slacks: &[f64],
+    gen_bus: &[usize],
+    qmin: &[f64],
+    qmax: &[f64],
+    from: &[usize],
+    to: &[usize],
+    g: &[f64],
+    b: &[f64],
+    g_fr: &[f64],
+    b_fr: &[f64],
+    g_to: &[f64],
+    b_to: &[f64],
+    tap: &[f64],
+    shift: &[f64],
+    sw: &[f64],
+    start: AcStart,
+    vm: &mut [f64],
+    va: &mut [f64],
+    p: &mut [f64],
+    q: &mut [f64],
+    kinds: &mut [u8],
+    w: &mut [f64],
+) -> Outcome
+    ensures { λ r.
+        let t = branchNetworkOf
+        (busesOf (now (kind .entry)) (now («vm_set» .entry)) (now (pd .entry)) (now (qd .entry)) (now (pg .entry)) (now (qg .entry)) (now («vm_case» .entry)) (now («va_case» .entry)))
+        (slacksOf (now (slacks .entry)) (now («va_slacks» .entry)))
+        (generatorsOf (now («gen_bus» .entry)) (now (qmin .entry)) (now (qmax .entry)))
+        (branchTableOf (branchesOf (now (from .entry)) (now (to .entry)))
+        (valuesOf (now (g .entry)) (now (b .entry)) (now («g_fr» .entry)) (now («b_fr» .entry)) (now («g_to» .entry)) (now («b_to» .entry)) (now (tap .entry)) (now (shift .entry)) (now (sw .entry)))) in
+        let o = outs (now (vm .entry)) (now (va .entry)) (now (p .entry)) (now (q .entry)) (now (kinds .entry)) in
+        let e = outs (now (vm .exit)) (now (va .exit)) (now (p .exit)) (now (q .exit)) (now (kinds .exit)) in
+        ⌜ answer (paperOf r) e (now (w .exit)) ≡ solveBranchesOf start t o (now (w .entry)) ⌝ }
+{
+    let c = check_branches(
+        kind,
+        vm_set,
+        pd,
+        qd,
+        pg,
+        qg,
+        vm_case,
+        va_case,
+        slacks,
+        va_slacks,
+        gen_bus,
+        qmin,
+        qmax,
+        from,
+        to,
+        g,
+        b,
+        g_fr,
+        b_fr,
+        g_to,
+        b_to,
+        tap,
+        shift,
+        sw,
+        vm.len(),
+        va.len(),
+        p.len(),
+        q.len(),
+        kinds.len(),
+        w.len(),
+    );
+    match c {
+        Checked::Ready => solve_built(
+            kind,
+            vm_set,
+            pd,
+            qd,
+            pg,
+            qg,
+            vm_case,
+            va_case,
+            slacks,
+            va_slacks,
+            gen_bus,
+            qmin,
+            qmax,
+            from,
+            to,
+            g,
+            b,
+            g_fr,
+            b_fr,
+            g_to,
+            b_to,
+            tap,
+            shift,
+            sw,
+            start,
+            vm,
+            va,
+            p,
+            q,
+            kinds,
+            w,
+        ),
+        Checked::Refused(r) => r,
+    }
+}
