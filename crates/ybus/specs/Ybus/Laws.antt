@@ -27,7 +27,8 @@ use Rattle.ybus.specs.declared.Parts.{Parts}
 use Rattle.ybus.specs.Branch.{fromOf, toOf, branchAt, admittanceOf, y-ft, y-tf}
 use Rattle.ybus.specs.Listed.{listed}
 use Rattle.ybus.specs.Listed.Laws.{Place, bus, first, second, place, length-listed, listed-bus, listed-first, listed-second, listed-ext, pairs-onto}
-use Rattle.ybus.specs.Ybus.{Fit, plus, diagonal, diagonalOf, ybusOf, places, entriesOf, Filled, listIn, nothing, admittancesOf, sumAt, admittanceAt, sumsTo, busColumn, diagonalParts, withBranches}
+use Rattle.ybus.specs.Ybus.{Fit, plus, diagonal, diagonalOf, ybusOf, places, entriesOf, Filled, listIn}
+use Rattle.ybus.specs.Ybus.{nothing, admittancesOf, sumAt, admittanceAt, sumsTo, busColumn, diagonalParts, withBranches}
 
 -- ---- sums in a table
 
