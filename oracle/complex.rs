@@ -1,6 +1,6 @@
-// ---- complex numbers (01, "The solver": product and polar number), under the names of num_complex
+// ---- complex numbers (01, "The solver": product and polar number; 02, request 3: quotient), under the names of num_complex
 
-use std::ops::{Add, AddAssign, Mul, Neg, Sub};
+use std::ops::{Add, AddAssign, Div, Mul, Neg, Sub};
 
 #[derive(Clone, Copy)]
 pub struct Complex<T> {
@@ -28,6 +28,28 @@ impl Mul for Complex<f64> {
     type Output = Self;
     fn mul(self, o: Self) -> Self {
         Complex { re: self.re * o.re - self.im * o.im, im: self.re * o.im + self.im * o.re }
+    }
+}
+
+impl Div for Complex<f64> {
+    type Output = Self;
+    fn div(self, o: Self) -> Self {
+        let below = o.re * o.re + o.im * o.im;
+        Complex { re: (self.re * o.re + self.im * o.im) / below, im: (self.im * o.re - self.re * o.im) / below }
+    }
+}
+
+impl Mul<f64> for Complex<f64> {
+    type Output = Self;
+    fn mul(self, x: f64) -> Self {
+        Complex { re: self.re * x, im: self.im * x }
+    }
+}
+
+impl Div<f64> for Complex<f64> {
+    type Output = Self;
+    fn div(self, x: f64) -> Self {
+        Complex { re: self.re / x, im: self.im / x }
     }
 }
 

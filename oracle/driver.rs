@@ -40,8 +40,30 @@ enum Field {
     Bus(usize),
 }
 
-// What each section's fields are: k a kind, r a real, o a real or ?, b a bus.
-const SECTIONS: [(u8, &[u8], usize); 5] = [(b'B', b"krrrrroo", 32), (b'R', b"br", 32), (b'G', b"brr", 32), (b'L', b"bb", 64), (b'Y', b"bbrr", 256)];
+// What each section's fields are: k a kind, r a real, o a real or ?, b a bus; and how many rows it may have.
+type Section = (u8, &'static [u8], usize);
+const BUSES: Section = (b'B', b"krrrrroo", 32);
+const SLACKS: Section = (b'R', b"br", 32);
+const GENERATORS: Section = (b'G', b"brr", 32);
+const LINES: Section = (b'L', b"bb", 64);
+const TRIPLETS: Section = (b'Y', b"bbrr", 256);
+const BRANCHES: Section = (b'K', b"bbrrrrrrrrr", 64);
+
+// An edition of the case text: the letters of a flat and of a case start, what a body may hold, its sections.
+struct Edition {
+    flat: u8,
+    case: u8,
+    alphabet: &'static [u8],
+    sections: &'static [Section],
+}
+const FIRST: Edition = Edition { flat: b'F', case: b'C', alphabet: b"\n -.0123456789?BRGLYVQ", sections: &[BUSES, SLACKS, GENERATORS, LINES, TRIPLETS] };
+const SECOND: Edition = Edition { flat: b'f', case: b'c', alphabet: b"\n -.0123456789?BRGLYVQK", sections: &[BUSES, SLACKS, GENERATORS, BRANCHES] };
+
+// Request 3 of document 02: the byte 32 from the end decides.
+fn edition(text: &[u8]) -> &'static Edition {
+    let decides = text.len().checked_sub(32).map(|at| text[at]);
+    if [Some(SECOND.flat), Some(SECOND.case)].contains(&decides) { &SECOND } else { &FIRST }
+}
 
 fn field(want: u8, text: &[u8]) -> Option<Field> {
     match want {
@@ -57,16 +79,18 @@ fn field(want: u8, text: &[u8]) -> Option<Field> {
 }
 
 fn read(text: &[u8]) -> Result<(AcNetwork, AcStart), (u8, usize)> {
-    if text.len() < 38 {
+    let edition = edition(text);
+    let groups = edition.sections.len() + 1;
+    if text.len() < 6 * groups + 2 {
         return Err((1, text.len()));
     }
     if text.len() > 32768 {
         return Err((1, 32768));
     }
-    let t = text.len() - 38;
+    let t = text.len() - (6 * groups + 2);
     let trailer = &text[t..];
     let mut starts = Vec::new();
-    for i in 0..6 {
+    for i in 0..groups {
         let part = &trailer[1 + 6 * i..7 + 6 * i];
         if part[0] != b' ' || !part[1..].iter().all(u8::is_ascii_digit) {
             return Err((2, t));
@@ -74,18 +98,18 @@ fn read(text: &[u8]) -> Result<(AcNetwork, AcStart), (u8, usize)> {
         starts.push(part[1..].iter().fold(0usize, |n, &b| n * 10 + usize::from(b - b'0')));
     }
     let start = match trailer[0] {
-        b'F' => AcStart::Flat,
-        b'C' => AcStart::Case,
+        letter if letter == edition.flat => AcStart::Flat,
+        letter if letter == edition.case => AcStart::Case,
         _ => return Err((2, t)),
     };
-    if trailer[37] != b'\n' || starts[0] != 0 || starts[5] != t || starts.windows(2).any(|w| w[1] < w[0]) {
+    if trailer.last() != Some(&b'\n') || starts[0] != 0 || starts.last() != Some(&t) || starts.windows(2).any(|w| w[1] < w[0]) {
         return Err((2, t));
     }
-    if let Some(i) = text[..t].iter().position(|b| !b"\n -.0123456789?BRGLYVQ".contains(b)) {
+    if let Some(i) = text[..t].iter().position(|b| !edition.alphabet.contains(b)) {
         return Err((3, i));
     }
     let mut rows: Vec<Vec<Vec<Field>>> = Vec::new();
-    for (s, &(letter, wants, most)) in SECTIONS.iter().enumerate() {
+    for (s, &(letter, wants, most)) in edition.sections.iter().enumerate() {
         let mut here = Vec::new();
         let mut at = starts[s];
         while at < starts[s + 1] {
@@ -136,8 +160,20 @@ fn read(text: &[u8]) -> Result<(AcNetwork, AcStart), (u8, usize)> {
         net.br_from.push(b(&f[0]));
         net.br_to.push(b(&f[1]));
     }
-    for f in &rows[4] {
-        net.triplets.push((b(&f[0]), b(&f[1]), Complex::new(r(&f[2]), r(&f[3]))));
+    if let Some(triplets) = rows.get(4) {
+        net.triplets = triplets.iter().map(|f| (b(&f[0]), b(&f[1]), Complex::new(r(&f[2]), r(&f[3])))).collect();
+    } else {
+        for f in &rows[3] {
+            net.g.push(r(&f[2]));
+            net.b.push(r(&f[3]));
+            net.g_fr.push(r(&f[4]));
+            net.b_fr.push(r(&f[5]));
+            net.g_to.push(r(&f[6]));
+            net.b_to.push(r(&f[7]));
+            net.tap.push(r(&f[8]));
+            net.shift.push(r(&f[9]));
+            net.sw.push(r(&f[10]));
+        }
     }
     Ok((net, start))
 }
@@ -161,13 +197,38 @@ fn missing_bus(net: &AcNetwork) -> Option<String> {
         .or_else(|| field(13, net.triplets.iter().map(|&(i, k, _)| [i, k]).collect()))
 }
 
+// Request 3 of document 02: the lowest row with a tap not above zero (14) or from a bus to itself (15), 14 first in a row.
+fn bad_branch(net: &AcNetwork) -> Option<String> {
+    net.tap.iter().zip(net.br_from.iter().zip(&net.br_to)).enumerate().find_map(|(row, (&tap, (from, to)))| {
+        let number = if !(tap > 0.0) { 14 } else if from == to { 15 } else { return None };
+        Some(format!("refused {number} {row}\n"))
+    })
+}
+
+// Request 3 of document 02: one diagonal entry per bus in bus order, each summed from zero in branch order; then the two entries of each branch.
+fn list(net: &AcNetwork) -> Vec<(usize, usize, Complex<f64>)> {
+    let mut diagonal = vec![Complex::new(0.0, 0.0); net.n];
+    let mut between = Vec::new();
+    for e in 0..net.tap.len() {
+        let (ff, ft, tf, tt) = net.branch_admittance(e);
+        let (from, to) = (net.br_from[e], net.br_to[e]);
+        diagonal[from] += ff;
+        diagonal[to] += tt;
+        between.extend([(from, to, ft), (to, from, tf)]);
+    }
+    diagonal.into_iter().enumerate().map(|(bus, y)| (bus, bus, y)).chain(between).collect()
+}
+
 pub fn answer(text: &[u8]) -> String {
-    let (net, start) = match read(text) {
+    let (mut net, start) = match read(text) {
         Err((number, place)) => return format!("refused {number} {place}\n"),
         Ok(read) => read,
     };
-    if let Some(refusal) = missing_bus(&net) {
+    if let Some(refusal) = missing_bus(&net).or_else(|| bad_branch(&net)) {
         return refusal;
+    }
+    if edition(text).flat == SECOND.flat {
+        net.triplets = list(&net);
     }
     match ac_pf_with_start(&AcPolar, &net, start) {
         Err((mismatch, starts)) => format!("refused 10 {} {starts}\n", printed(mismatch)),

@@ -3,8 +3,8 @@
 
 Usage: python3 oracle/make_oracle.py PATH_TO_SRC [OUT] [--num-complex CRATES]
 PATH_TO_SRC holds crates/tellegen/src/.. of eigenergy/tellegen; OUT is target/oracle.
-Writes OUT/altered.rs (find and dense_islands of islands.rs, all of pf_ac.rs, changed only as listed in CHANGES and COUNTERS) and builds OUT/oracle
-and OUT/oracle_platform (the same with the platform's sine and cosine). None of the repository's text is kept here.
+Writes OUT/altered.rs (find and dense_islands of islands.rs, branch_admittance of ac.rs, all of pf_ac.rs, changed only as listed in CHANGES and COUNTERS) and
+builds OUT/oracle and OUT/oracle_platform (the same with the platform's sine and cosine). None of the repository's text is kept here.
 Writes OUT/uncounted.rs too, the same without COUNTERS, for the benchmark.
 With --num-complex it builds OUT/oracle_num_complex too: the platform's sine and cosine, and the crate num_complex itself in place of complex.rs.
 CRATES is a folder with the sources of num-complex and num-traits (Debian: librust-num-complex-dev puts them in /usr/share/cargo/registry).
@@ -18,7 +18,8 @@ import sys
 
 HERE = os.path.dirname(os.path.abspath(__file__))
 
-# (what, old, new): each old text stands exactly once. Changes that document 01 makes:
+# (what, old, new): each old text stands exactly once in pf_ac.rs. Changes that document 01 makes. branch_admittance has none: it calls Complex, which is a
+# stand-in, and so our sine; the list of its results is the driver's, since 02 has another list than the Rust's ybus.
 CHANGES = [
     ("num_complex gives way to a stand-in", "use num_complex::Complex;\n", ""),
     ("the formulation, islands, network and solve_sparse stand in this file",
@@ -59,13 +60,15 @@ def take(text, start, end):
 def altered(src, changes):
     """The repository's part of the program."""
     islands = open(os.path.join(src, "model", "islands.rs")).read()
+    ac = open(os.path.join(src, "model", "ac.rs")).read()
     pf_ac = open(os.path.join(src, "problem", "pf_ac.rs")).read()
     for what, old, new in changes:
         if pf_ac.count(old) != 1:
             sys.exit(f"{pf_ac.count(old)} places for: {what}")
         pf_ac = pf_ac.replace(old, new)
     pf_ac = re.sub(r"^//!.*\n", "", pf_ac, flags=re.M)
-    return take(islands, "fn find(parent", "\n}\n") + take(islands, "pub(crate) fn dense_islands", "\n}\n") + pf_ac
+    admittance = "impl AcNetwork {\n    " + take(ac, "pub(crate) fn branch_admittance", "\n    }\n") + "}\n"
+    return take(islands, "fn find(parent", "\n}\n") + take(islands, "pub(crate) fn dense_islands", "\n}\n") + admittance + pf_ac
 
 
 def own(name):

@@ -87,7 +87,7 @@ pub fn solve_sparse(dim: usize, entries: &[(usize, usize, f64)], rhs: &[f64]) ->
     Ok(b)
 }
 
-// ---- the network's tables, with the triplets given
+// ---- the network's tables, with the triplets given or made of the branches by the driver
 
 #[derive(Default)]
 pub struct AcNetwork {
@@ -108,6 +108,15 @@ pub struct AcNetwork {
     pub qmax: Vec<f64>,
     pub br_from: Vec<usize>,
     pub br_to: Vec<usize>,
+    pub g: Vec<f64>,
+    pub b: Vec<f64>,
+    pub g_fr: Vec<f64>,
+    pub b_fr: Vec<f64>,
+    pub g_to: Vec<f64>,
+    pub b_to: Vec<f64>,
+    pub tap: Vec<f64>,
+    pub shift: Vec<f64>,
+    pub sw: Vec<f64>,
     pub triplets: Vec<(usize, usize, Complex<f64>)>,
 }
 
