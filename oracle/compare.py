@@ -1,9 +1,10 @@
 #!/usr/bin/env python3
 """Runs freshly drawn texts through the solve program and the altered Rust, side by side, and prints every mismatch.
 
-    python3 oracle/compare.py SOLVE ORACLE SEED COUNT [padded]
-SOLVE reads a case text on standard input and prints the answer; COUNT is 1 or more. With `padded` all texts have padded numbers, about the limits of
-request 2 of 02. Texts that differ are saved under target/mismatches. Exit 1 on a mismatch.
+    python3 oracle/compare.py SOLVE ORACLE SEED COUNT [first | branches | padded]
+SOLVE reads a case text on standard input and prints the answer; COUNT is 1 or more. Half of the texts are of each edition; with `first` or `branches` all are
+of the first or of the second one, with `padded` all have padded numbers, about the limits of request 2 of 02. Texts that differ are saved under
+target/mismatches. Exit 1 on a mismatch.
 """
 import os
 import subprocess
@@ -15,6 +16,7 @@ import cases
 
 SAVED = os.path.join(os.path.dirname(os.path.abspath(__file__)), "..", "target", "mismatches")
 BATCH = 2000
+DRAWN = {"": cases.both, "first": cases.texts, "branches": cases.branched, "padded": cases.padded}
 
 
 def solve(program, text):
@@ -37,10 +39,11 @@ def save(seed, place, text):
 
 
 def main():
-    if len(sys.argv) not in (5, 6) or sys.argv[5:] not in ([], ["padded"]) or int(sys.argv[4]) < 1:
+    kind = "".join(sys.argv[5:])
+    if len(sys.argv) not in (5, 6) or kind not in DRAWN or int(sys.argv[4]) < 1:
         sys.exit(__doc__)
     program, oracle, seed, count = os.path.abspath(sys.argv[1]), sys.argv[2], int(sys.argv[3]), int(sys.argv[4])
-    texts = (cases.padded if sys.argv[5:] else cases.texts)(seed, count)
+    texts = DRAWN[kind](seed, count)
     wrong, answers, met = 0, [], []
     with ThreadPoolExecutor(2) as two:
         for first in range(0, count, BATCH):
@@ -54,7 +57,7 @@ def main():
                     wrong += 1
                     a, b = unlike(ours[i], answers[first + i])
                     print(f"text {first + i} ({save(seed, first + i, text)}):\n  ours {a!r}\n  Rust {b!r}")
-    print(f"{count} {'padded ' if sys.argv[5:] else ''}texts of seed {seed}: {wrong} mismatches")
+    print(f"{count} {kind}{' ' if kind else ''}texts of seed {seed}: {wrong} mismatches")
     cases.report(cases.classes(texts, answers, met))
     sys.exit(wrong > 0)
 

@@ -44,7 +44,7 @@ def samples(one, other):
 
 
 def drawn(one, other, seed, count):
-    texts = cases.texts(seed, count)
+    texts = cases.both(seed, count)
     (x, met_x), (y, met_y) = cases.answers(one, texts), cases.answers(other, texts)
     near, beyond_path, other_path, single = [], [], [], {}
     for i in range(count):
@@ -77,7 +77,7 @@ def main():
         sys.exit(__doc__)
     samples(*sys.argv[1:3])
     drawn(*sys.argv[1:3], int(sys.argv[3]), int(sys.argv[4]))
-    print("not compared: faer's sparse LU (both builds use 01's linear solve); how AcNetwork and its ybus are made (triplets are given)")
+    print("not compared: faer's sparse LU (both builds use 01's linear solve); how AcNetwork is made, and its ybus (the list is given, or 02's)")
 
 
 main()

@@ -1,26 +1,40 @@
-"""Families of case texts (document 01, "Case text"): networks of every kind that the solver treats apart, and damaged texts.
+"""Families of case texts (document 01, "Case text", and 02, request 3): networks of every kind that the solver treats apart, and damaged texts.
 
 A family is a function of a random source that gives a Case or a text. oracle/cases.py draws from them.
 """
 import random
-from itertools import accumulate
+from collections import defaultdict
+from fractions import Fraction
+from itertools import accumulate, product
 
-# The sections in their order, and how many rows each may have.
+# The sections of a text in their order, and how many rows each may have: of the first edition, and of the second.
 SIZES = {"B": 32, "R": 32, "G": 32, "L": 64, "Y": 256}
+BRANCHED = {"B": 32, "R": 32, "G": 32, "K": 64}
 
 
 class Case:
     """A case with numbers in its cells; a cell may be text too, such as ?."""
+    sizes, names = SIZES, ("buses", "slacks", "gens", "lines", "triplets")
+    reals = {"buses": 1, "slacks": 1, "gens": 1, "triplets": 2}  # the tables with reals, and the place of a row's first one
 
     def __init__(self, start, buses, slacks, gens, lines, triplets, digits=4):
         self.start, self.buses, self.slacks, self.gens, self.lines, self.triplets, self.digits = start, buses, slacks, gens, lines, triplets, digits
 
     def sections(self):
-        return ["".join(" ".join([letter, *(cell(x, self.digits) for x in row)]) + "\n" for row in rows).encode()
-                for letter, rows in zip(SIZES, (self.buses, self.slacks, self.gens, self.lines, self.triplets))]
+        return ["".join(" ".join([letter, *(cell(x, self.digits) for x in row)]) + "\n" for row in getattr(self, name)).encode()
+                for letter, name in zip(self.sizes, self.names)]
 
     def text(self):
         return join(self.start, self.sections())
+
+
+class Branched(Case):
+    """A case of the second edition: a table of branches in place of lines and triplets. Its start is f or c."""
+    sizes, names = BRANCHED, ("buses", "slacks", "gens", "branches")
+    reals = {"buses": 1, "slacks": 1, "gens": 1, "branches": 2}
+
+    def __init__(self, start, buses, slacks, gens, branches, digits=4):
+        self.start, self.buses, self.slacks, self.gens, self.branches, self.digits = start, buses, slacks, gens, branches, digits
 
 
 def cell(x, digits):
@@ -37,7 +51,7 @@ def trailed(body, starts, flag="F"):
 
 
 def join(flag, sections):
-    """The text of five sections, with its trailer."""
+    """The text of the sections, with its trailer."""
     return trailed(b"".join(sections), accumulate(map(len, sections), initial=0), flag)
 
 
@@ -320,9 +334,6 @@ def no_bus(rng):
 
 # ---- padded numbers
 
-# The tables with reals, and the place of a row's first one.
-REALS = {"buses": 1, "slacks": 1, "gens": 1, "triplets": 2}
-
 # How an exporter pads: digits before the point at least, and decimals.
 WIDTHS = [(7, 10), (7, 10), (1, 14), (16, 0), (9, 4), (3, 22), (20, 22)]
 
@@ -338,7 +349,7 @@ PADDED = [plain, heavy, islands, no_slack, slacks, limits, crossed, cascade, edg
 
 def respelled(c, change):
     """The case with every real changed."""
-    for table, first in REALS.items():
+    for table, first in c.reals.items():
         setattr(c, table, [[*row[:first], *map(change, row[first:])] for row in getattr(c, table)])
     return c
 
@@ -367,17 +378,17 @@ def filled(c, row, place, n, decimals, minus=""):
     return c
 
 
-def padded(rng, k):
+def padded(rng, k, of=lambda rng, family: family(rng)):
     """A network of any kind with all numbers padded. In every second one a real of the next of LIMITS stands among them."""
-    c = rng.choice(PADDED)(rng)
+    c = of(rng, rng.choice(PADDED))
     ahead, decimals = rng.choice(WIDTHS)
     respelled(c, lambda x: widened(cell(x, c.digits), ahead, decimals))
     if k % 2 == 0:
         return c
     counted, end, decimals, ahead = LIMITS[k // 2 % len(LIMITS)]
-    table = rng.choice([table for table in REALS if getattr(c, table)])
+    table = rng.choice([table for table in c.reals if getattr(c, table)])
     row = rng.choice(getattr(c, table))
-    place, minus = rng.randrange(REALS[table], len(row)), rng.choice(["", "-"])
+    place, minus = rng.randrange(c.reals[table], len(row)), rng.choice(["", "-"])
     n = rng.randrange(10 ** (counted - end - 1), 10 ** (counted - end)) * 10 ** end if counted else 0
     if ahead is None:
         return filled(c, row, place, n, decimals, minus)
@@ -397,26 +408,27 @@ def length(rng):
     return t[len(t) - rng.choice([0, 1, 2, 36, 37, 38]):] if rng.random() < 0.7 else t[:rng.randrange(38)]
 
 
-def long(rng):
+def long(rng, make=good):
     """The longest text that is not too long, and longer ones."""
-    c = good(rng)
+    c = make(rng)
     s = c.sections()
-    s[4] += b"0" * (rng.choice([32768, 32769, 32769, 32800]) - len(c.text()))
+    s[-1] += b"0" * (rng.choice([32768, 32769, 32769, 32800]) - len(c.text()))
     return join(c.start, s)
 
 
-def trailer(rng):
+def trailer(rng, make=good, others=b"0123456789 FCG\n"):
     """A byte of the trailer changed, or the wrong starts."""
-    t = bytearray(good(rng).text())
-    t[len(t) - 38 + rng.randrange(38)] = rng.choice(b"0123456789 FCG\n")
+    c = make(rng)
+    t, width = bytearray(c.text()), 6 * len(c.sizes) + 8
+    t[len(t) - width + rng.randrange(width)] = rng.choice(others)
     return bytes(t)
 
 
-def alphabet(rng):
+def alphabet(rng, make=good):
     """A byte that no body holds."""
-    c = good(rng)
+    c = make(rng)
     s = c.sections()
-    i = rng.choice([i for i in range(5) if s[i]])
+    i = rng.choice([i for i, part in enumerate(s) if part])
     at = rng.randrange(len(s[i]))
     s[i] = s[i][:at] + rng.choice(["\u2212", "\u2013", "\t", "\r", "e", "+", ",", "b", "\0", "S", "_"]).encode() + s[i][at + rng.randrange(2):]
     return join(c.start, s)
@@ -432,24 +444,24 @@ def over(rng):
     return c
 
 
-def form(rng):
+def form(rng, make=good, letters="BRGLYQ"):
     """A line of the wrong form, or a section that ends within a line."""
-    c = good(rng)
+    c = make(rng)
     s = c.sections()
-    i = rng.choice([i for i in range(5) if s[i]])
+    i = rng.choice([i for i, part in enumerate(s) if part])
     lines = s[i].splitlines(keepends=True)
     k = rng.randrange(len(lines))
     x = lines[k]
     lines[k] = rng.choice([x[1:], x.replace(b" ", b"  ", 1), x[:-1] + b" \n", b" " + x, x + b"\n", x[:-1] + b" 0\n", x.rsplit(b" ", 1)[0] + b"\n",
-                           rng.choice("BRGLYQ").encode() + x[1:], x[:-1]])
+                           rng.choice(letters).encode() + x[1:], x[:-1]])
     s[i] = b"".join(lines)
     return join(c.start, s)
 
 
-def field(rng):
+def field(rng, make=good):
     """One field that is wrong, or would be in another place."""
-    c = good(rng)
-    rows = rng.choice([r for r in (c.buses, c.slacks, c.gens, c.lines, c.triplets) if r])
+    c = make(rng)
+    rows = rng.choice([getattr(c, name) for name in c.names if getattr(c, name)])
     row = rng.choice(rows)
     row[rng.randrange(len(row))] = rng.choice(["1.", ".5", "-", "--1", "1-", "1.2.3", "-.", "-0", "0000000000000001", "1.00000000000000001", "00",
                                                "01", "1000", "?", "B", "VQ", "Q1"])
@@ -496,9 +508,9 @@ def missing(rng, k):
     return c
 
 
-def struck(rng):
+def struck(rng, make=good, added=b" \n-.0159?BRGLYVQx"):
     """A good text after an accident: a byte changed, lost or added, or the end cut off."""
-    t = bytearray(good(rng).text())
+    t = bytearray(make(rng).text())
     at = rng.randrange(len(t))
     how = rng.randrange(4)
     if how == 0:
@@ -506,7 +518,235 @@ def struck(rng):
     elif how == 1:
         del t[at]
     elif how == 2:
-        t.insert(at, rng.choice(b" \n-.0159?BRGLYVQx"))
+        t.insert(at, rng.choice(added))
     else:
         del t[at:]
     return bytes(t)
+
+
+# ---- texts of the second edition: networks
+
+PLAIN = [0.0, 0.0, 0.0, 0.0, 1, 0, 1]  # what a K row has behind its series admittance: no shunts, tap 1, shift 0, on
+
+
+def branch_rows(c):
+    """The K rows of a first-edition case: one for each line, with the line's own entry as its series admittance. What a bus's diagonal entry has beside these
+    is a shunt at the end of its first row."""
+    value = lambda x: Fraction(cell(x, c.digits))
+    entries, left, rows, first = defaultdict(list), defaultdict(lambda: [Fraction(0), Fraction(0)]), [], {}
+    for i, k, g, b in c.triplets:
+        if i == k:
+            left[i] = [x + value(y) for x, y in zip(left[i], (g, b))]
+        else:
+            entries[i, k].append((value(g), value(b)))
+    for row, (f, t) in enumerate(c.lines):
+        found = [entries[pair].pop(0) for pair in ((f, t), (t, f)) if entries[pair]]
+        series = [-x for x in found[0]] if found else [Fraction(0)] * 2
+        rows.append([f, t, *map(float, series), *PLAIN])
+        for end, place in ((f, 4), (t, 6)):
+            left[end] = [x - y for x, y in zip(left[end], series)]
+            first.setdefault(end, (row, place))
+    for bus, (row, place) in first.items():
+        rows[row][place:place + 2] = map(float, left[bus])
+    return rows
+
+
+def taps(rng, rows):
+    for row in rows:
+        row[8] = rng.choice([1, rng.uniform(0.85, 1.15), rng.uniform(0.4, 2.2)])
+
+
+def shifts(rng, rows):
+    for row in rows:
+        row[9] = rng.choice([0, rng.uniform(-0.6, 0.6), rng.uniform(-0.1, 0.1)])
+
+
+def far_shifts(rng, rows):
+    """Whole turns, degrees, and shifts near or beyond 1024 radians, on branches that are on or off."""
+    for row in rng.sample(rows, min(2, len(rows))):
+        row[9] = rng.choice([1, -1]) * rng.choice([6.283185307, 30, 330, 1023.98, 1024, 1024.02, 2000, 99999999999999])
+        row[10] = rng.choice([1, 1, 0])
+
+
+def off(rng, rows):
+    for row in rng.sample(rows, min(2, len(rows))):
+        row[10] = rng.choice([0, 0, "-0", "0.000"])
+
+
+def switched(rng, rows):
+    """Switches that are neither 0 nor 1."""
+    for row in rows:
+        row[10] = rng.choice([1, 1, 0.5, 2, -1, 0.001, 1.001, 99999999999999])
+
+
+def signed(rng, rows):
+    """Zeros with a minus, and a branch without its conductance or susceptance."""
+    rng.choice(rows)[rng.choice([2, 3])] = "-0"
+    for row in rows:
+        for place in range(2, 11):
+            if row[place] == 0 and rng.random() < 0.5:
+                row[place] = "-0"
+
+
+def parallel(rng, rows):
+    """Some branches as two, one of them turned at times, or all that is beside one as a second one."""
+    for row in rng.sample(rows, min(3, len(rows))):
+        twin = list(row)
+        for place in range(2, 8):
+            row[place] = twin[place] = float(row[place]) / 2
+        if rng.random() < 0.5:
+            twin[:2], twin[4:8] = twin[1::-1], twin[6:8] + twin[4:6]
+        rows.insert(rng.randrange(len(rows) + 1), twin)
+
+
+def charged(rng, rows):
+    """Shunts at both ends of every branch."""
+    for row in rows:
+        row[4:8] = [rng.uniform(0, 0.02), rng.uniform(0, 0.1), rng.uniform(0, 0.02), rng.uniform(-0.1, 0.1)]
+
+
+def steep(rng, rows):
+    """Taps and admittances of every size."""
+    for row in rows:
+        row[8] = rng.choice([1, 0.01, 100, 99999999999999, "0.0000000000000000000001"])
+        row[2:4] = [float(x) * rng.choice([1, 1, 1e5, 0]) for x in row[2:4]]
+
+
+def mingled(rng, rows):
+    rng.shuffle(rows)
+
+
+DRESSES = [taps, taps, shifts, shifts, far_shifts, off, off, switched, signed, signed, parallel, parallel, charged, steep, mingled]
+
+
+def undressed(rng, family):
+    """A case of a family as one of branches."""
+    c = family(rng)
+    return Branched(c.start.lower(), c.buses, c.slacks, c.gens, branch_rows(c), c.digits)
+
+
+def branched(rng, family):
+    """The same; most are changed in what only branches have."""
+    c = undressed(rng, family)
+    for dress in rng.sample(DRESSES, rng.choice([0, 1, 2, 3])) if c.branches else []:
+        dress(rng, c.branches)
+    c.branches = c.branches[:BRANCHED["K"]]
+    return c
+
+
+def transformer():
+    """Two buses and a transformer, as short as it goes with a number of every form."""
+    return Branched("f", [["V", 1, 0, 0, 0, 0, "?", "?"], ["Q", 1, 0.5, "-0", 0, 0, 1, 0]], [[0, 0]], [], [[0, 1, 1, -9, 0, 0, 0, 0.2, 0.97, -0.1, 1]])
+
+
+def all_branches(rng):
+    """Every table full. The last rows are switched off, so that they carry nothing, or stand beside others."""
+    c = branched(rng, full)
+    rest = [[*rng.sample(range(len(c.buses)), 2), 1.0, -5.0, *PLAIN[:-1], rng.choice([0, 1])] for _ in range(BRANCHED["K"] - len(c.branches))]
+    c.branches += rest
+    return c
+
+
+# ---- texts of the second edition: damaged
+
+def good_branches(rng):
+    return branched(rng, good)
+
+
+def over_branches(rng, k):
+    """A row over the size of the k-th table, or a wrong row."""
+    c = transformer()
+    letter, rows, row = [("B", c.buses, c.buses[1]), ("R", c.slacks, c.slacks[0]), ("G", c.gens, [0, -1, 1]), ("K", c.branches, c.branches[0])][k % 4]
+    rows += [row] * (BRANCHED[letter] - len(rows))
+    rows.append([row, row + [0], [""]][k // 4 % 3])
+    return c
+
+
+# Lengths about those of the two trailers, and what stands 32 from the end.
+LENGTHS = list(product(range(30, 40), "fcFC0K"))
+
+
+def short(rng, k):
+    """The end of a text of either edition, with the k-th length and letter of LENGTHS."""
+    n, letter = LENGTHS[k % len(LENGTHS)]
+    t = bytearray(rng.choice([good, good_branches])(rng).text()[-n:])
+    if n >= 32:
+        t[n - 32:n - 31] = letter.encode()
+    return bytes(t)
+
+
+def line_among(rng, c, part, line):
+    """The text of a case with a line put into a section."""
+    s = c.sections()
+    s[part] = line + s[part] if rng.random() < 0.5 else s[part] + line
+    return join(c.start, s)
+
+
+# Something of one edition in a text of the other.
+MIXED = [
+    lambda rng: line_among(rng, good(rng), rng.randrange(5), b"K 0 1 1 -8 0 0 0 0 1 0 1\n"),
+    lambda rng: line_among(rng, good_branches(rng), rng.randrange(3), rng.choice([b"L 0 1\n", b"Y 0 0 2 -8\n", b"K 0 1 1 -8 0 0 0 0 1 0 1\n"])),
+    lambda rng: line_among(rng, transformer(), 3, rng.choice([b"L 0 1\n", b"L 0 1 1 -8 0 0 0 0 1 0 1\n"])),
+    lambda rng: line_among(rng, transformer(), 3, b"Y 0 0 2 -8\n"),
+    lambda rng: line_among(rng, transformer(), 3, b"K 0 1\n"),
+    lambda rng: line_among(rng, transformer(), 3, ("K 0 1 " + " ".join(["?" if j == k else "1" for k in [rng.randrange(9)] for j in range(9)]) + "\n").encode()),
+    lambda rng: join("F", good_branches(rng).sections()),
+    lambda rng: join("f", good(rng).sections()),
+    lambda rng: join("C", [*good_branches(rng).sections(), b""]),
+    lambda rng: join("f", [*good_branches(rng).sections(), b""]),
+    lambda rng: join("k", good_branches(rng).sections()),
+    lambda rng: good_branches(rng).text() + rng.choice([b"\n", b" ", b"f"]),
+]
+
+
+def mixed(rng, k):
+    """The k-th of MIXED."""
+    return MIXED[k % len(MIXED)](rng)
+
+
+def flipped(rng, k):
+    """The short text of branches with its k-th byte changed."""
+    t = bytearray(transformer().text())
+    at = k % len(t)
+    t[at] = rng.choice([b for b in b"\n -.0123456789?BRGLYVQKfcFC" if b != t[at]])
+    return bytes(t)
+
+
+# The tables of the second edition whose rows name buses, as NAMING has them.
+NAMING_BRANCHED = {8: NAMING[8], 11: NAMING[11], 12: ("branches", 2, [0, 0, 1, -8, *PLAIN])}
+
+# What is at fault: by refusal the rows, for 8, 11 and 12 with their fields. Row -1 is the last one, row 1 one in between.
+BAD = [{table: [(row, field)]} for table, (_, fields, _) in NAMING_BRANCHED.items() for row in (0, 1, -1) for field in range(fields)]
+BAD += [{12: [(row, 0), (row, 1)]} for row in (0, 1, -1)]
+BAD += [{table: [(1, fields - 1), (-1, 0)]} for table, (_, fields, _) in NAMING_BRANCHED.items()]
+BAD += [{14: [row]} for row in (0, 1, -1)] * 3 + [{15: [row]} for row in (0, 1, -1)] * 2
+BAD += [{14: [row], 15: [row]} for row in (0, 1, -1)] + [{14: [a], 15: [b]} for a, b in ((0, 1), (1, 0), (1, -1), (-1, 1), (0, -1), (-1, 0))]
+BAD += [{14: [1, -1]}, {15: [1, -1]}, {14: [0, 1, -1], 15: [0, 1, -1]}]
+BAD += [{table: [(-1, 0)], other: [0]} for table in NAMING_BRANCHED for other in (14, 15)]
+BAD += [{first: [(-1, 0)], second: [(0, 0)]} for first in NAMING_BRANCHED for second in NAMING_BRANCHED if first < second]
+
+
+def bad_rows(rng, k):
+    """A network in which the rows of the k-th of BAD are at fault. After the last of them: rows of one table and no bus."""
+    k %= len(BAD) + len(NAMING_BRANCHED)
+    if k >= len(BAD):
+        name, _, row = list(NAMING_BRANCHED.values())[k - len(BAD)]
+        c = Branched("f", [], [], [], [])
+        getattr(c, name).extend([row] * 3)
+        return c
+    c = undressed(rng, lambda rng: network(rng, [rng.randrange(4, 7)], 0.5))
+    for dress in rng.sample([taps, shifts, off, signed, mingled], 2):
+        dress(rng, c.branches)
+    n = len(c.buses)
+    c.slacks = [[rng.randrange(n), 0.0] for _ in range(rng.randrange(3, 6))]
+    c.gens = [[rng.randrange(n), -1, 1] for _ in range(rng.randrange(3, 6))]
+    for number, rows in sorted(BAD[k].items(), reverse=True):
+        if number > 12:
+            for row in (c.branches[row] for row in rows):
+                place, value = (8, rng.choice([0, "-0", "0.000", "-0.0", -1, -0.5, -1000])) if number == 14 else (1, row[0])
+                row[place] = value
+                row[10] = rng.choice([row[10], 0])
+        else:
+            for row, field in rows:
+                getattr(c, NAMING_BRANCHED[number][0])[row][field] = rng.choice([n, n, n + 1, 32, 33, 999])
+    return c
