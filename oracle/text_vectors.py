@@ -6,10 +6,11 @@
 The reader below follows the papers' sentences on strings with regular expressions; a real's one division is that of exact.py.
 stdin: how many records, and the records. Numbers have two bytes, the higher first.
   a record: how many bytes its text has, how many the rest has, the text, and the rest:
-    the refusal's number (0 of a good answer), its place, the flag of a good answer, and how many places each of the 19 columns has
+    the refusal's number (0 of a good answer), its place, the trailer's letter of a good answer, and how many places each of the 30 columns has
     for each column where its words start, counted from here, and how many rows it has
     the words of the columns, of eight bytes: one for each row, and behind them one for all places past the rows
-  Before each reading a column holds a mark in every place: 251, or 1e300 in a column of reals. Columns of the same words share them.
+  The columns are those of the B, R, G, L, Y and K lines; those of lines that the text's edition doesn't know have no rows. Before each reading a column holds
+  a mark in every place: 251, or 1e300 in a column of reals. Columns of the same words share them.
 """
 import random
 import re
@@ -17,12 +18,13 @@ import struct
 from itertools import product
 
 from exact import NAN, bits, div, neg, to_bits, whole
-from families import SIZES, join, listing, trailed
+from families import BRANCHED, LENGTHS, SIZES, join, listing, trailed, transformer
 from vectors import write
 
-FIELDS = {"B": "krrrrroo", "R": "br", "G": "brr", "L": "bb", "Y": "bbrr"}  # k a kind, r a real, o a real or ?, b a bus number
-COLUMNS = [(z, j) for z in SIZES for j in range(len(FIELDS[z]))]  # the 19 columns in the call's order
+FIELDS = {"B": "krrrrroo", "R": "br", "G": "brr", "L": "bb", "Y": "bbrr", "K": "bbrrrrrrrrr"}  # k a kind, r a real, o a real or ?, b a bus number
+COLUMNS = [(z, j) for z in FIELDS for j in range(len(FIELDS[z]))]  # the 30 columns in the call's order
 ALPHABET = set(b"\n -.0123456789?BRGLYVQ")
+SECOND_ALPHABET = ALPHABET | set(b"K")
 DIGITS = b"9876543210123456"  # 16 digits, the first of them not zero
 
 
@@ -48,30 +50,34 @@ def real(f):
     return to_bits(neg(x) if minus else x)
 
 
-def trailer(t):
-    """The six numbers of a well-formed trailer, else None."""
-    m = re.fullmatch(rb"[FC]" + rb" ([0-9]{5})" * 6 + rb"\n", t)
+def trailer(t, flags, count):
+    """The numbers of a well-formed trailer, else None."""
+    m = re.fullmatch(rb"[" + flags + rb"]" + rb" ([0-9]{5})" * count + rb"\n", t)
     return m and [int(x) for x in m.groups()]
 
 
 def read(text, narrow=False):
     """The papers' answer: ("refused", number, place) or ("good", flag, columns). narrow: each column has one place."""
-    if len(text) < 38:
+    if text[-32:-31] in (b"f", b"c") and len(text) >= 32:
+        least, flags, sizes, alphabet = 32, b"fc", BRANCHED, SECOND_ALPHABET
+    else:
+        least, flags, sizes, alphabet = 38, b"FC", SIZES, ALPHABET
+    if len(text) < least:
         return ("refused", 1, len(text))
     if len(text) > 32768:
         return ("refused", 1, 32768)
-    end = len(text) - 38
-    starts = trailer(text[end:])
-    if not starts or starts[0] != 0 or starts[5] != end or any(a > b for a, b in zip(starts, starts[1:])):
+    end = len(text) - least
+    starts = trailer(text[end:], flags, len(sizes) + 1)
+    if not starts or starts[0] != 0 or starts[-1] != end or any(a > b for a, b in zip(starts, starts[1:])):
         return ("refused", 2, end)
     for i, b in enumerate(text[:end]):
-        if b not in ALPHABET:
+        if b not in alphabet:
             return ("refused", 3, i)
-    tables = {}
-    for z, a, e in zip(SIZES, starts, starts[1:]):
-        tables[z], at = [], a
+    tables = {z: [] for z in FIELDS}
+    for z, a, e in zip(sizes, starts, starts[1:]):
+        at = a
         while at < e:
-            if len(tables[z]) == SIZES[z]:
+            if len(tables[z]) == sizes[z]:
                 return ("refused", 6, at)
             stop = text.find(b"\n", at, e)
             parts = text[at:stop].split(b" ")
@@ -124,6 +130,16 @@ def only(z, body):
     return join("F", [body if z == other else b"" for other in SIZES])
 
 
+def branches(b=(), r=(), g=(), k=(), flag="f"):
+    """A text of the second edition of the given lines, with its trailer."""
+    return join(flag, [b"".join(x + b"\n" for x in part) for part in (b, r, g, k)])
+
+
+def only_branches(z, body):
+    """The same with a body in one section, and the others empty."""
+    return join("f", [body if z == other else b"" for other in BRANCHED])
+
+
 def full(field, more=0, after=b"0"):
     """A text of 32,768 bytes, or of some more, in which zeros stand in front of a field; behind it stands another field."""
     line = lambda zeros: [b"B Q " + b"0" * zeros + field + b" " + after + b" 0 0 0 ? ?"]
@@ -170,6 +186,107 @@ def zeros(add, rng):
         f = b"%0*d" % (rng.randrange(23, 40), rng.randrange(10 ** rng.randrange(1, 16)))
         point = len(f) - rng.randrange(1, 23)
         add(text(g=[b"G 1 -" + f[:point] + b"." + f[point:] + b" " + f]))
+
+
+TRANSFORMER = transformer().text()
+BRANCH = b"K 0 1 1.25 -8.5 0 0.01 -0 0.02 0.978 -0.1 1"
+CABLES = branches([BUS, b"B Q 1 0 0 0 0 1.0 0"], [b"R 0 0"], [b"G 1 -1 1.5"], [BRANCH, b"K 1 0 2 -4 0 0.5 0 0.5 1 0 0"], "c")
+
+
+def with_field(line, j, field):
+    """A line with another field in place j."""
+    parts = line.split(b" ")
+    return b" ".join([*parts[:j + 1], field, *parts[j + 2:]])
+
+
+def second_edition(add, rng):
+    """Texts of the second edition, and of the first with something of the second."""
+    add(TRANSFORMER)
+    add(CABLES)
+    for flag in "fc":
+        add(branches(flag=flag))
+        add(branches([LOAD], flag=flag))
+    # lengths about those of the two trailers, with every letter 32 from the end, and longest texts
+    for n, letter in LENGTHS:
+        for t in (TRANSFORMER, LISTING, branches(), text()):
+            t = bytearray((b"0" * 40 + t)[-n:])
+            if n >= 32:
+                t[n - 32:n - 31] = letter.encode()
+            add(bytes(t))
+    for extra in (0, 1, 2):
+        add(only_branches("B", (LOAD + b"\n") * 1818 + b" " * (12 + extra)))
+        add(only_branches("K", b"K 0 1 1 -8 0 0 0 0 1 0 1\n" * 1309 + b"\n" * (11 + extra)))
+    # trailers
+    body = TRANSFORMER[:-32]
+    for starts in ([0, 39, 45, 45, 77], [0, 39, 45, 45, 79], [1, 39, 45, 45, 78], [0, 45, 39, 45, 78], [0, 39, 45, 44, 78], [0, 39, 45, 79, 78], [0, 39, 99999, 99999, 78],
+                   [0, 0, 0, 0, 0], [0, 39, 45, 45, 99999], [78] * 5, [0, 39, 45, 45], [0, 39, 45, 45, 45, 78], [0, 39, 45, 45, 78, 78], [0, 0, 39, 45, 45, 78]):
+        add(trailed(body, starts, "f"))
+        add(trailed(body, starts, "c"))
+    for flag in "FCkK 0\n":
+        add(trailed(body, [0, 39, 45, 45, 78], flag))
+        add(trailed(body, [0, 39, 45, 45, 78, 78], flag))
+    for t in (TRANSFORMER[:-1] + b" ", TRANSFORMER[:-1], TRANSFORMER[:-1] + b"\r\n", TRANSFORMER + b"\n", TRANSFORMER + b"f", b"\n" + TRANSFORMER, TRANSFORMER[1:],
+              TRANSFORMER.replace(b"f 0", b"f\t0"), TRANSFORMER.replace(b"f 00000", b"f  0000"), TRANSFORMER.replace(b"00039", b"0003x"), TRANSFORMER.replace(b"00039", b"-0039"),
+              TRANSFORMER.replace(b"00039", b"00 39"), TRANSFORMER.replace(b"00078", b"000781"), TRANSFORMER + TRANSFORMER, TRANSFORMER + LISTING, LISTING + TRANSFORMER):
+        add(t)
+    # sections cut anywhere
+    for cut in range(0, 79, 3):
+        add(trailed(body, [0, min(cut, 45), 45, 45, 78], "f"))
+        add(trailed(body, [0, 39, max(39, cut), max(39, cut), 78], "c"))
+        add(trailed(body, [0, 39, 45, max(45, cut), 78], "f"))
+    # the alphabets: K in each section of a first-edition text, other letters in one of the second
+    for part in "brgly":
+        add(text(**{part: [BRANCH]}))
+        add(text([LOAD], **({} if part == "b" else {part: [b"K"]})))
+    for bad in (b"\t", b"\r", b"\x00", b"+", b"e", b",", b"k", b"f", b"c", b"F", b"C", b"J", b"S", b"\xff", b"\xe2\x88\x92", b"_"):
+        add(branches([LOAD], [b"R 0 0"], [], [BRANCH, with_field(BRANCH, 4, bad)]))
+        add(branches([with_field(LOAD, 2, bad)], [b"R 0 0"], [], [BRANCH]))
+    add(branches([b"B Q 1. 0 0 0 0 ? ?"], k=[b"K 0 x"]))
+    # each table exactly full, and a row more
+    for z, line in zip(BRANCHED, (LOAD, b"R 7 0.5", b"G 3 -1 1", BRANCH)):
+        add(only_branches(z, (line + b"\n") * BRANCHED[z]))
+        add(only_branches(z, (line + b"\n") * (BRANCHED[z] + 1)))
+        add(only_branches(z, (line + b"\n") * BRANCHED[z] + z.encode() + b"\n"))
+        add(only_branches(z, (line + b"\n") * BRANCHED[z] + line))
+    add(branches([LOAD] * 32, [b"R 31 -0.5"] * 32, [b"G 0 -1 1"] * 32, [BRANCH] * 64, "c"))
+    # forms of lines
+    for line in (b"", b" ", b"K", b"K ", b"K 0", b"K 0 1", b" " + BRANCH, BRANCH + b" ", BRANCH.replace(b" 0 1", b"  0 1"), BRANCH + b" 1", BRANCH[:-2], b"K" + BRANCH, b"L" + BRANCH[1:], b"Y" + BRANCH[1:],
+                 b"L 0 1", b"Y 0 0 2 -8", b"B" + BRANCH[1:], b"R 0 0", b"G 0 -1 1", BRANCH.replace(b" ", b"", 1), BRANCH + b"\n", b"\n" + BRANCH, b"Q" + BRANCH[1:], b"K" + LOAD[1:]):
+        add(branches([LOAD], [b"R 0 0"], k=[line]))
+        add(branches([LOAD], k=[BRANCH, line, BRANCH]))
+    for part, line in product("brg", (BRANCH, b"K 0 0", b"K 0 1 2", b"K", b"L 0 1", b"Y 0 0 2 -8")):
+        add(branches(**{part: [line]}))
+    # fields: each in turn
+    for j in range(11):
+        for field in (b"?", b"1.", b"-", b"01", b"-0", b"00", b"0.5", b"1000", b"999", b"V", b"K", b"0" * 20 + b"7", b"1234567890123456", b"0." + b"0" * 21 + b"7", b"0." + b"0" * 23):
+            add(branches([LOAD], k=[with_field(BRANCH, j, field)]))
+        add(branches(k=[BRANCH, with_field(with_field(BRANCH, j, b"1."), 10, b"?")]))
+    # an earlier line's refusal before a later one's
+    add(branches([b"B Q 1. 0 0 0 0 ? ?"], k=[b"K"]))
+    add(branches([LOAD], [b"R 00 0"], [b"G"], [b"K"]))
+    add(branches(k=[b"K 0 1. 1", BRANCH]))
+    add(branches(k=[with_field(BRANCH, 3, b"."), b"K"]))
+    # columns of one place
+    one = {"b": [BUS], "r": [b"R 0 0"], "g": [b"G 1 -1 1.5"], "k": [BRANCH]}
+    for t in (branches(**one), branches(), branches(flag="c"), CABLES, TRANSFORMER):
+        add(t, narrow=True)
+    for z in "brgk":
+        add(branches(**dict(one, **{z: one[z] * 2})), narrow=True)
+        add(branches(**{z: one[z] * 2}), narrow=True)
+        add(branches(**dict(one, **{z: one[z] * 2, "k": [with_field(BRANCH, 9, b"1.")]})), narrow=True)
+    add(branches(**dict(one, k=[BRANCH] * 65)), narrow=True)
+    # every byte of a good text changed in turn
+    for t in (TRANSFORMER, TRANSFORMER):
+        for i in range(len(t)):
+            add(t[:i] + bytes([rng.choice(sorted((SECOND_ALPHABET | set(b"fcFC")) - {t[i]}))]) + t[i + 1:])
+    # random reals
+    for _ in range(25):
+        fields = [b"%d" % rng.randrange(1000) for _ in range(2)]
+        for _ in range(9):
+            f = b"%0*d" % (rng.randrange(2, 40), rng.randrange(10 ** rng.randrange(1, 16)))
+            point = len(f) - rng.randrange(min(len(f), 23))
+            fields.append(rng.choice([b"", b"-"]) + f[:point] + (b"." + f[point:] if point < len(f) else b""))
+        add(branches([LOAD], k=[b"K " + b" ".join(fields), BRANCH], flag=rng.choice("fc")))
 
 
 def records():
@@ -276,6 +393,7 @@ def records():
             f += b"." + b"%0*d" % (rng.randrange(1, 8), rng.randrange(10))
         add(text(g=[b"G %d " % rng.randrange(1000) + f + b" 1"], flag=rng.choice("FC")))
     zeros(add, rng)
+    second_edition(add, random.Random(9))
     return out
 
 
