@@ -1,11 +1,20 @@
-# The lines of a case: the fields of each, their names, and what kind of field each is (K the kind, N a bus number, R a real, S a real or `?`).
+# The lines of a case: the fields of each, their names, and what kind of field each is (T the bus's kind, N a bus number, R a real, S a real or `?`).
+# `letters` are those of the edition that a text is of, in their order: the first has L and Y lines, the second K lines.
 BEGIN {
-    letters = "BRGLY"
-    line_names("B", "kind vm_set pd qd pg qg vm_case va_case", "K R R R R R S S", 32)
+    first_edition = letters = "BRGLY"
+    second_edition = "BRGK"
+    line_names("B", "kind vm_set pd qd pg qg vm_case va_case", "T R R R R R S S", 32)
     line_names("R", "bus angle", "N R", 32)
     line_names("G", "bus qmin qmax", "N R R", 32)
     line_names("L", "from to", "N N", 64)
     line_names("Y", "row col re im", "N N R R", 256)
+    line_names("K", "from to g b g_fr b_fr g_to b_to tap shift sw", "N N R R R R R R R R R", 64)
+}
+
+# The letters as they stand in a sentence.
+function order(    k, s) {
+    for (k = 1; k <= length(letters); k++) s = s (k > 1 ? ", " : "") substr(letters, k, 1)
+    return s
 }
 
 # The number that decimal digits stand for. Without its leading zeros, which some awks take for the mark of an octal number.

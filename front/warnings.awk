@@ -2,11 +2,13 @@
 # case's. Needs tables.awk.
 END {
     name = ENVIRON["name"]
-    for (k = 1; k <= entries; k++) given[row[k], col[k]]++
-    for (k = 1; k <= lines; k++) joined[from[k], to[k]] = joined[to[k], from[k]] = 1
-    mirrors()
-    lines_and_entries()
-    diagonals()
+    if (letters == first_edition) {
+        for (k = 1; k <= entries; k++) given[row[k], col[k]]++
+        for (k = 1; k <= lines; k++) joined[from[k], to[k]] = joined[to[k], from[k]] = 1
+        mirrors()
+        lines_and_entries()
+        diagonals()
+    } else branches()
     parts()
     generators_of_buses()
     voltages()
@@ -47,7 +49,28 @@ function diagonals(    b) {
     tell("a bus with more than one diagonal entry, which makes Newton steps go wrong; add them up to one")
 }
 
-# Buses that L lines join are one part; a part's name is its lowest bus.
+# A field of a K line that is not what one expects, and where.
+function branch(k, what) { return "K " from[k] " " to[k] " has " what at_line(branch_line[k]) }
+
+function branches(    b, k, all, off) {
+    for (k = 1; k <= lines; k++) if (tap[k] < 0.5 || tap[k] > 2) note(branch(k, tap[k]))
+    tell("a tap outside 0.5 to 2; a tap is a ratio, 1 in a line")
+    for (k = 1; k <= lines; k++) if (shift[k] < -7 || shift[k] > 7) note(branch(k, shift[k]))
+    tell("a shift over 7; a shift is in radians, not in degrees")
+    for (k = 1; k <= lines; k++) if (switched[k] != 0 && switched[k] != 1) note(branch(k, switched[k]))
+    tell("an sw other than 0 (off) and 1 (on), which multiplies all that the branch carries")
+    for (k = 1; k <= lines; k++) if (susceptance[k] > 0) note(branch(k, susceptance[k]))
+    tell("a b above zero, as of a capacitor in series; b is -x/(r*r + x*x)")
+    for (k = 1; k <= lines; k++) {
+        all[from[k]]++
+        all[to[k]]++
+        if (switched[k] == 0) { off[from[k]]++; off[to[k]]++ }
+    }
+    for (b = 0; b < buses; b++) if (off[b] && off[b] == all[b]) note("bus " b)
+    tell("a bus whose K lines are all off")
+}
+
+# Buses that L or K lines join are one part; a part's name is its lowest bus.
 function parts(    b, k, changed, low, members, count, has_slack) {
     for (b = 0; b < buses; b++) part[b] = b
     do {
@@ -64,7 +87,7 @@ function parts(    b, k, changed, low, members, count, has_slack) {
         count[part[b]]++
     }
     for (b = 0; b < buses; b++) if (count[part[b]] == 1 && buses > 1) note("bus " b)
-    tell("a bus that hangs on nothing, since no L line joins it to another")
+    tell("a bus that hangs on nothing, since no " substr(letters, 4, 1) " line joins it to another")
     for (b = 0; b < buses; b++) if (part[b] == b && !(b in has_slack)) note(count[b] == 1 ? "bus " b : "buses " members[b])
     tell("a part without a slack bus, in which no R line names a bus")
 }
