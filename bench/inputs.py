@@ -1,9 +1,9 @@
 #!/usr/bin/env python3
-"""Writes the inputs of the benchmark: the sample cases, and texts drawn from the generator's families by seed.
+"""Writes the inputs of the benchmark, texts of both editions: the sample cases, and texts drawn from the generator's families by seed.
 
     python3 bench/inputs.py ORACLE OUT BESIDE      ORACLE is target/oracle/oracle, the judge; the two folders are made anew
 
-OUT gets the list that is asked for, BESIDE a case of no buses. A drawn text is that of the first seed at which the altered Rust's counters show what
+OUT gets the list that is asked for, BESIDE the cases of no buses. A drawn text is that of the first seed at which the altered Rust's counters show what
 the input is for.
 """
 import os
@@ -43,6 +43,24 @@ def longest(rng):
     return f.respelled(f.full(rng), wide).text()
 
 
+def branches(rng):
+    """32 buses and 64 branches with taps, shifts and charging, some of them off."""
+    c = f.undressed(rng, lambda rng: f.sized(rng, 32))
+    c.start = "f"
+    while len(c.branches) < f.BRANCHED["K"]:
+        c.branches.append([*rng.sample(range(32), 2), rng.uniform(1, 2), rng.uniform(-9, -4), *f.PLAIN])
+    for row in c.branches:
+        row[5], row[7], row[8], row[9] = row[5] + 0.01, row[7] + 0.01, rng.choice([1, 1, 0.975, 1.05]), rng.choice([0, 0, 0, 0.02])
+        row[10] = 0 if row[0] > 0 and rng.random() < 0.05 else 1
+    return c.text()
+
+
+def longest_branches(rng):
+    """Every table of the second edition full and every real of 15 digits."""
+    c = f.all_branches(rng)
+    return f.respelled(c, wide).text()
+
+
 def zeros(rng):
     """The paper's listing with zeros in front of its voltage, as many as a text has room for."""
     c = f.listing()
@@ -60,6 +78,9 @@ DRAWN = {
     "refused10": (refused, lambda text, answer, met: answer.startswith(b"refused 10 ") and answer.endswith(b" 6\n")),
     "longest": (longest, solved),
     "bytes32768": (f.long, lambda text, answer, met: len(text) == 32768),
+    "flat32k": (branches, solved),
+    "longestk": (longest_branches, solved),
+    "bytes32768k": (lambda rng: f.long(rng, f.good_branches), lambda text, answer, met: len(text) == 32768),
     "zeros32768": (zeros, lambda text, answer, met: len(text) == 32768 and solved(text, answer, met)),
 }
 
@@ -88,7 +109,7 @@ def main():
         sys.exit(__doc__)
     oracle, out, beside = sys.argv[1:]
     write(out, {**cases.samples(), **{name: draw(oracle, name) for name in DRAWN}})
-    write(beside, {"nobus": f.join("F", [b""] * 5)})
+    write(beside, {"nobus": f.join("F", [b""] * 5), "nobusk": f.join("f", [b""] * 4)})
 
 
 main()
