@@ -85,12 +85,12 @@ def texts(seed, count):
 
 
 def branched(seed, count):
-    """Texts of the second edition. Every member of the families of IN_TURN comes first; then each round has a network of the next size, a large text, one of each
-    other slot, two with padded numbers, and the next member of each family of IN_TURN."""
+    """Texts of the second edition. Every member of the families of IN_TURN comes first; then each round has a network of the next size, a large text, one of uneven
+    numbers, one of tied islands, one of each other slot, two with padded numbers, and the next member of each family of IN_TURN."""
     rng = random.Random(f"branches {seed}")
     out, k = [family(rng, i) for family, members in IN_TURN.items() for i in range(members)], 0
     while len(out) < count:
-        out += [f.branched(rng, lambda rng: f.sized(rng, 1 + (32 - k) % 32)), LARGE_BRANCHED[k % len(LARGE_BRANCHED)](rng)]
+        out += [f.branched(rng, lambda rng: f.sized(rng, 1 + (32 - k) % 32)), LARGE_BRANCHED[k % len(LARGE_BRANCHED)](rng), f.uneven_branches(rng), f.tied(rng)]
         out += [f.branched(rng, family) for family in BRANCHED] + [family(rng) for family in DAMAGED]
         out += [f.undressed(rng, family) for family in UNDRESSED] + [f.padded(rng, 2 * k, f.undressed), f.padded(rng, 2 * k + 1, f.branched)]
         out += [family(rng, k) for family in IN_TURN]
@@ -300,6 +300,7 @@ def branch_classes(text, answer):
         "branches side by side, one turned": len(set(pairs)) > len({frozenset(pair) for pair in pairs}),
         "several islands": len(set(label)) > 1,
         "an island that only a branch which is off holds together": len(set(on)) > len(set(label)),
+        "such an island, solved, with a slack angle": ok and len(set(on)) > len(set(label)) and any(float(r[1]) != 0 for r in slack_rows),
         "several slacks in one island": len(slacks) > len({label[b] for b in slacks}),
         "an island without slack": len({label[b] for b in slacks}) < len(set(label)),
         "a case start with ?": any("?" in r for r in stored),
@@ -311,9 +312,11 @@ def branch_classes(text, answer):
         "solved with a shift over 7": ok and any(7 < abs(r[7]) <= 1024 for r in reals),
         "a shift of 1024": any(abs(r[7]) == 1024 for r in reals),
         "a shift beyond 1024": any(abs(r[7]) > 1024 for r in reals),
-        "a shift beyond 1024 of a branch that is off": any(abs(r[7]) > 1024 and r[8] == 0 for r in reals),
+        "no shift beyond 1024 but of branches that are off, refused 10 with nan": answer.startswith(b"refused 10 nan") and {r[8] for r in reals if abs(r[7]) > 1024} == {0},
         "solved with a branch that is off": ok and any(r[8] == 0 for r in reals),
         "solved with a switch other than 0 and 1": ok and any(r[8] not in (0, 1) for r in reals),
+        "solved with a tap, a shift and a switch other than 0 and 1 in one branch": ok and any(r[6] != 1 and r[7] != 0 and r[8] not in (0, 1) for r in reals),
+        "a branch that adds nothing to a diagonal entry": any(r[8] != 0 and r[0] ** 2 + r[1] ** 2 > 0 and [-r[0], -r[1]] in (r[2:4], r[4:6]) for r in reals),
         "a negative switch": any(r[8] < 0 for r in reals),
         **{f"-0 as {name}": any(r[k + 2] == "-0" for r in branches) for k, name in enumerate(FIELDS) if name != "tap"},
     }

@@ -605,6 +605,19 @@ def charged(rng, rows):
         row[4:8] = [rng.uniform(0, 0.02), rng.uniform(0, 0.1), rng.uniform(0, 0.02), rng.uniform(-0.1, 0.1)]
 
 
+def uneven(rng, rows):
+    """Every field of every branch another number, of a size that can be solved."""
+    for row in rows:
+        row[4:] = [*(float(x) + rng.uniform(0, 0.05) for x in row[4:8]), rng.uniform(0.93, 1.07), rng.uniform(-0.1, 0.1), rng.uniform(0.8, 1.2)]
+
+
+def cancelled(rng, rows):
+    """A branch whose shunt takes its series admittance away from one end, so that it carries power and adds nothing to a diagonal entry."""
+    row = rng.choice(rows)
+    place = rng.choice([4, 6])
+    row[place:place + 2] = [-float(x) for x in row[2:4]]
+
+
 def steep(rng, rows):
     """Taps and admittances of every size."""
     for row in rows:
@@ -616,7 +629,29 @@ def mingled(rng, rows):
     rng.shuffle(rows)
 
 
-DRESSES = [taps, taps, shifts, shifts, far_shifts, off, off, switched, signed, signed, parallel, parallel, charged, steep, mingled]
+DRESSES = [taps, taps, shifts, shifts, far_shifts, off, off, switched, signed, signed, parallel, parallel, charged, uneven, cancelled, cancelled,
+           steep, mingled]
+
+
+def uneven_branches(rng):
+    """A network of ordinary size and load, with every number another."""
+    c = undressed(rng, lambda rng: network(rng, [rng.randrange(2, 9)], 0.5))
+    uneven(rng, c.branches)
+    return c
+
+
+def tied(rng):
+    """Islands whose slacks have angles of their own, or one island and a bus without load, tied by a branch that is off: one island in which the first slack leads.
+    At times the branch has a shift beyond 1024 radians, and so NaN for its entries, on or off."""
+    alone = rng.random() < 0.5
+    c = undressed(rng, lambda rng: network(rng, [rng.randrange(2, 5), 1 if alone else rng.randrange(2, 5)], 0.4))
+    for row in c.slacks:
+        row[1] = rng.uniform(-0.5, 0.5)
+    if alone:
+        c.slacks.pop()
+        c.buses[-1] = [rng.choice("VQ"), 1, 0, 0, 0, 0, "?", "?"]
+    c.branches.append([0, len(c.buses) - 1, 1.0, -5.0, *PLAIN[:-2], rng.choice([0, 0, 2000]), rng.choice([0, "-0"])])
+    return c
 
 
 def undressed(rng, family):
