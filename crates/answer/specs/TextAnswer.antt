@@ -1,5 +1,5 @@
--- The answer of a case text: the reader's call joined to the solve's. What is printed of it stands in `report`.
-pub mod Laws
+-- The answer of a case text: the reading by its edition's rules joined to that edition's solve. What is printed of it stands in `report`.
+
 use Prim.Native.Nat.{ℕ}
 use mathlib.Core.List.{List, []}
 use lib.ListN.{replicate}
@@ -7,10 +7,15 @@ use lib.Ieee.{Float}
 use Rattle.real.specs.Paper.{Paper, given, refused}
 use Rattle.real.specs.Literals.{nought}
 use Rattle.network.specs.Network.{Network, busesOf, slacksOf, generatorsOf, branchesOf, tripletsOf, networkOf, firstRows}
+use Rattle.network.specs.BranchTable.{BranchNetwork, valuesOf, branchTableOf, branchNetworkOf, firstBranchRows}
 use Rattle.fields.specs.Real.{DigitRule, allowed}
+use Rattle.trailer.specs.Trailer.{editionOf}
+use Rattle.trailer.specs.declared.Edition.{Edition}
+use Rattle.trailer.specs.declared.Edition.the-variants.{First, Second}
 use Rattle.case_text.specs.declared.Contents.{Contents}
 use Rattle.case_text.specs.Answer as Reader
-use Rattle.tables.specs.Tables.{Outs, paperOf, solveOf}
+use Rattle.tables.specs.Tables.{Outs, Answer, paperOf, solveOf}
+use Rattle.branch_tables.specs.BranchTables.{solveBranchesOf}
 use Rattle.answer.specs.declared.Answered.{Answered}
 use Rattle.answer.specs.declared.Answered.the-variants as Answered
 
@@ -22,6 +27,11 @@ blank =
     networkOf (busesOf n x x x x x x x) (slacksOf n x) (generatorsOf n x x) (branchesOf (replicate 64 0) (replicate 64 0))
     (tripletsOf (replicate 256 0) (replicate 256 0) (replicate 256 nought) (replicate 256 nought))
 
+abbrev pub blankBranches : BranchNetwork
+blankBranches =
+    let x = replicate 64 nought in
+    branchNetworkOf (blank .buses) (blank .slacks) (blank .generators) (branchTableOf (blank .branches) (valuesOf x x x x x x x x x))
+
 -- how many buses, the answer on 01's paper, and what is left in the lent columns and the workspace
 pub record TextAnswer : Type 0 where
   pub buses : ℕ
@@ -32,19 +42,34 @@ pub record TextAnswer : Type 0 where
 abbrev pub textAnswer : ℕ → Paper (ℕ × Float) → Outs → List Float → TextAnswer
 textAnswer n r o w = record { buses = n; paper = r; columns = o; space = w }
 
+abbrev pub told : ℕ → Answer → TextAnswer
+told n a = textAnswer n (a .paper) (a .columns) (a .space)
+
 -- of a good text the solve of its rows; a reader's refusal leaves columns and workspace untouched
-abbrev pub afterReading : Reader.ReadResult → Outs → List Float → TextAnswer
-afterReading (Reader.readResult (given c) read) o w =
-    let a = solveOf (c .start) (firstRows (c .rows) read) o w in
-    textAnswer (c .rows .buses) (a .paper) (a .columns) (a .space)
-afterReading (Reader.readResult (refused number values) read) o w = textAnswer 0 (refused number values) o w
+abbrev pub afterFirst : Reader.ReadResult Network → Outs → List Float → TextAnswer
+afterFirst (Reader.readResult (given c) read) o w = told (c .rows .buses) (solveOf (c .start) (firstRows (c .rows) read) o w)
+afterFirst (Reader.readResult (refused number values) read) o w = textAnswer 0 (refused number values) o w
 
--- its reals read by a digit rule, and by 02's
-unfoldable pub textAnswerBy : DigitRule → List ℕ → Outs → List Float → TextAnswer
-textAnswerBy rule s o w = afterReading (Reader.readBy rule s blank) o w
+abbrev pub afterSecond : Reader.ReadResult BranchNetwork → Outs → List Float → TextAnswer
+afterSecond (Reader.readResult (given c) read) o w = told (c .rows .buses) (solveBranchesOf (c .start) (firstBranchRows (c .rows) read) o w)
+afterSecond (Reader.readResult (refused number values) read) o w = textAnswer 0 (refused number values) o w
 
+-- by an edition's rules, its reals read by a digit rule
+unfoldable pub textAnswerBy : DigitRule → Edition → List ℕ → Outs → List Float → TextAnswer
+textAnswerBy rule First s o w = afterFirst (Reader.readFirstBy rule s blank) o w
+textAnswerBy rule Second s o w = afterSecond (Reader.readSecondBy rule s blankBranches) o w
+
+-- by 02's digit rule
+
+abbrev pub firstAnswer : List ℕ → Outs → List Float → TextAnswer
+firstAnswer = textAnswerBy allowed First
+
+abbrev pub secondAnswer : List ℕ → Outs → List Float → TextAnswer
+secondAnswer = textAnswerBy allowed Second
+
+-- by the rules of the text's own edition
 abbrev pub textAnswerOf : List ℕ → Outs → List Float → TextAnswer
-textAnswerOf = textAnswerBy allowed
+textAnswerOf s o w = textAnswerBy allowed (editionOf s) s o w
 
 -- ---- the answer's enum on paper
 

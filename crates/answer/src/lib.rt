@@ -1,15 +1,18 @@
-// The answer of a case text: the text is read, and the tables that it holds are solved.
+// The answer of a case text: the text is read by the rules of its edition, and the tables that it holds are solved.
 use case_text::Reading;
 use network::Rows;
 use starts::AcStart;
 use tables::Outcome;
+use trailer::Edition;
 ghost use mathlib.Core.Path.{_≡_};
 ghost use mathlib.Core.List.{List};
 ghost use Prim.Native.Nat.{_≤_};
 ghost use lib.Ieee.{Float};
 ghost use Rattle.network.specs.Network.{Network, busesOf, slacksOf, generatorsOf, branchesOf, tripletsOf, networkOf, RoomFor, firstRows};
+ghost use Rattle.network.specs.BranchTable.{BranchNetwork, valuesOf, branchTableOf, branchNetworkOf, RoomForBranches, firstBranchRows};
 ghost use Rattle.tables.specs.Tables.{Outs, outs, answer, paperOf, solveOf};
-ghost use Rattle.answer.specs.TextAnswer.{busesIn, paperIn, textAnswer, textAnswerOf};
+ghost use Rattle.branch_tables.specs.BranchTables.{solveBranchesOf};
+ghost use Rattle.answer.specs.TextAnswer.{busesIn, paperIn, textAnswer, firstAnswer, secondAnswer, textAnswerOf};
 
 // Refused by the reader; or read, with the number of buses and what the solve of the tables answers.
 pub enum Answered {
@@ -17,29 +20,31 @@ pub enum Answered {
     Read(usize, Outcome),
 }
 
-// The solve of the first rows of tables whose columns may be longer.
+// ---- the first edition
+
+// The solve of the first rows of tables whose columns are longer.
 fn solve_rows(
     rows: Rows,
     start: AcStart,
-    kind: &[u8],
-    vm_set: &[f64],
-    pd: &[f64],
-    qd: &[f64],
-    pg: &[f64],
-    qg: &[f64],
-    vm_case: &[f64],
-    va_case: &[f64],
-    slacks: &[usize],
-    va_slacks: &[f64],
-    gen_bus: &[usize],
-    qmin: &[f64],
-    qmax: &[f64],
-    br_from: &[usize],
-    br_to: &[usize],
-    y_row: &[usize],
-    y_col: &[usize],
-    y_re: &[f64],
-    y_im: &[f64],
+    kind: [u8; 32],
+    vm_set: [f64; 32],
+    pd: [f64; 32],
+    qd: [f64; 32],
+    pg: [f64; 32],
+    qg: [f64; 32],
+    vm_case: [f64; 32],
+    va_case: [f64; 32],
+    slacks: [usize; 32],
+    va_slacks: [f64; 32],
+    gen_bus: [usize; 32],
+    qmin: [f64; 32],
+    qmax: [f64; 32],
+    br_from: [usize; 64],
+    br_to: [usize; 64],
+    y_row: [usize; 256],
+    y_col: [usize; 256],
+    y_re: [f64; 256],
+    y_im: [f64; 256],
     vm: &mut [f64],
     va: &mut [f64],
     p: &mut [f64],
@@ -50,11 +55,11 @@ fn solve_rows(
     ghost { Network × Outs × List Float }
     requires { λ α. ⌜ (
       networkOf
-          (busesOf (now kind) (now «vm_set») (now pd) (now qd) (now pg) (now qg) (now «vm_case») (now «va_case»))
-          (slacksOf (now slacks) (now «va_slacks»))
-          (generatorsOf (now «gen_bus») (now qmin) (now qmax))
-          (branchesOf (now «br_from») (now «br_to»))
-          (tripletsOf (now «y_row») (now «y_col») (now «y_re») (now «y_im»)),
+          (busesOf kind «vm_set» pd qd pg qg «vm_case» «va_case»)
+          (slacksOf slacks «va_slacks»)
+          (generatorsOf «gen_bus» qmin qmax)
+          (branchesOf «br_from» «br_to»)
+          (tripletsOf «y_row» «y_col» «y_re» «y_im»),
       outs (now vm) (now va) (now p) (now q) (now kinds),
       now w,
     ) ≡ α ⌝ }
@@ -97,8 +102,8 @@ fn solve_rows(
     )
 }
 
-// Reads a text and solves its tables. The columns hold a solved answer.
-pub fn answer(
+// Reads a text by the first edition's rules and solves its tables. The columns hold a solved answer.
+fn answer_first(
     text: &[u8],
     vm: &mut [f64; 32],
     va: &mut [f64; 32],
@@ -110,7 +115,7 @@ pub fn answer(
     ensures { λ r.
         let o = outs (now (vm .entry)) (now (va .entry)) (now (p .entry)) (now (q .entry)) (now (kinds .entry)) in
         let e = outs (now (vm .exit)) (now (va .exit)) (now (p .exit)) (now (q .exit)) (now (kinds .exit)) in
-        ⌜ (textAnswer (busesIn r) (paperIn r) e (now (w .exit)) ≡ textAnswerOf (now (text .entry)) o (now (w .entry))) × (busesIn r ≤ 32) ⌝ }
+        ⌜ (textAnswer (busesIn r) (paperIn r) e (now (w .exit)) ≡ firstAnswer (now (text .entry)) o (now (w .entry))) × (busesIn r ≤ 32) ⌝ }
 {
     let mut kind = [0u8; 32];
     let mut vm_set = [0.0; 32];
@@ -131,7 +136,7 @@ pub fn answer(
     let mut y_col = [0usize; 256];
     let mut y_re = [0.0; 256];
     let mut y_im = [0.0; 256];
-    let read = case_text::read_case(
+    let read = case_text::read_triplets(
         text,
         &mut kind,
         &mut vm_set,
@@ -161,25 +166,25 @@ pub fn answer(
     let found = solve_rows(
         rows,
         start,
-        &kind,
-        &vm_set,
-        &pd,
-        &qd,
-        &pg,
-        &qg,
-        &vm_case,
-        &va_case,
-        &slacks,
-        &va_slacks,
-        &gen_bus,
-        &qmin,
-        &qmax,
-        &br_from,
-        &br_to,
-        &y_row,
-        &y_col,
-        &y_re,
-        &y_im,
+        kind,
+        vm_set,
+        pd,
+        qd,
+        pg,
+        qg,
+        vm_case,
+        va_case,
+        slacks,
+        va_slacks,
+        gen_bus,
+        qmin,
+        qmax,
+        br_from,
+        br_to,
+        y_row,
+        y_col,
+        y_re,
+        y_im,
         vm,
         va,
         p,
@@ -188,4 +193,227 @@ pub fn answer(
         w,
     );
     Answered::Read(rows.buses, found)
+}
+
+// ---- the second edition
+
+// The same of tables of branches.
+fn solve_branch_rows(
+    rows: Rows,
+    start: AcStart,
+    kind: [u8; 32],
+    vm_set: [f64; 32],
+    pd: [f64; 32],
+    qd: [f64; 32],
+    pg: [f64; 32],
+    qg: [f64; 32],
+    vm_case: [f64; 32],
+    va_case: [f64; 32],
+    slacks: [usize; 32],
+    va_slacks: [f64; 32],
+    gen_bus: [usize; 32],
+    qmin: [f64; 32],
+    qmax: [f64; 32],
+    from: [usize; 64],
+    to: [usize; 64],
+    g: [f64; 64],
+    b: [f64; 64],
+    g_fr: [f64; 64],
+    b_fr: [f64; 64],
+    g_to: [f64; 64],
+    b_to: [f64; 64],
+    tap: [f64; 64],
+    shift: [f64; 64],
+    sw: [f64; 64],
+    vm: &mut [f64],
+    va: &mut [f64],
+    p: &mut [f64],
+    q: &mut [f64],
+    kinds: &mut [u8],
+    w: &mut [f64],
+) -> Outcome
+    ghost { BranchNetwork × Outs × List Float }
+    requires { λ α. ⌜ (
+      branchNetworkOf
+          (busesOf kind «vm_set» pd qd pg qg «vm_case» «va_case»)
+          (slacksOf slacks «va_slacks»)
+          (generatorsOf «gen_bus» qmin qmax)
+          (branchTableOf (branchesOf from to)
+          (valuesOf g b «g_fr» «b_fr» «g_to» «b_to» tap shift sw)),
+      outs (now vm) (now va) (now p) (now q) (now kinds),
+      now w,
+    ) ≡ α ⌝ }
+    requires { λ (t, o, space). ⌜ RoomForBranches rows t ⌝ }
+    ensures { λ (t, o, space) r. ⌜ answer (paperOf r) (outs (now (vm .exit)) (now (va .exit)) (now (p .exit)) (now (q .exit)) (now (kinds .exit)))
+        (now (w .exit)) ≡ solveBranchesOf start (firstBranchRows rows t) o space ⌝ }
+{
+    let n = rows.buses;
+    let r = rows.slacks;
+    let k = rows.generators;
+    let l = rows.branches;
+    branch_tables::solve(
+        &kind[..n],
+        &vm_set[..n],
+        &pd[..n],
+        &qd[..n],
+        &pg[..n],
+        &qg[..n],
+        &vm_case[..n],
+        &va_case[..n],
+        &slacks[..r],
+        &va_slacks[..r],
+        &gen_bus[..k],
+        &qmin[..k],
+        &qmax[..k],
+        &from[..l],
+        &to[..l],
+        &g[..l],
+        &b[..l],
+        &g_fr[..l],
+        &b_fr[..l],
+        &g_to[..l],
+        &b_to[..l],
+        &tap[..l],
+        &shift[..l],
+        &sw[..l],
+        start,
+        vm,
+        va,
+        p,
+        q,
+        kinds,
+        w,
+    )
+}
+
+// Reads a text by the second edition's rules and solves its tables.
+fn answer_second(
+    text: &[u8],
+    vm: &mut [f64; 32],
+    va: &mut [f64; 32],
+    p: &mut [f64; 32],
+    q: &mut [f64; 32],
+    kinds: &mut [u8; 32],
+    w: &mut [f64],
+) -> Answered
+    ensures { λ r.
+        let o = outs (now (vm .entry)) (now (va .entry)) (now (p .entry)) (now (q .entry)) (now (kinds .entry)) in
+        let e = outs (now (vm .exit)) (now (va .exit)) (now (p .exit)) (now (q .exit)) (now (kinds .exit)) in
+        ⌜ (textAnswer (busesIn r) (paperIn r) e (now (w .exit)) ≡ secondAnswer (now (text .entry)) o (now (w .entry))) × (busesIn r ≤ 32) ⌝ }
+{
+    let mut kind = [0u8; 32];
+    let mut vm_set = [0.0; 32];
+    let mut pd = [0.0; 32];
+    let mut qd = [0.0; 32];
+    let mut pg = [0.0; 32];
+    let mut qg = [0.0; 32];
+    let mut vm_case = [0.0; 32];
+    let mut va_case = [0.0; 32];
+    let mut slacks = [0usize; 32];
+    let mut va_slacks = [0.0; 32];
+    let mut gen_bus = [0usize; 32];
+    let mut qmin = [0.0; 32];
+    let mut qmax = [0.0; 32];
+    let mut from = [0usize; 64];
+    let mut to = [0usize; 64];
+    let mut g = [0.0; 64];
+    let mut b = [0.0; 64];
+    let mut g_fr = [0.0; 64];
+    let mut b_fr = [0.0; 64];
+    let mut g_to = [0.0; 64];
+    let mut b_to = [0.0; 64];
+    let mut tap = [0.0; 64];
+    let mut shift = [0.0; 64];
+    let mut sw = [0.0; 64];
+    let read = case_text::read_branches(
+        text,
+        &mut kind,
+        &mut vm_set,
+        &mut pd,
+        &mut qd,
+        &mut pg,
+        &mut qg,
+        &mut vm_case,
+        &mut va_case,
+        &mut slacks,
+        &mut va_slacks,
+        &mut gen_bus,
+        &mut qmin,
+        &mut qmax,
+        &mut from,
+        &mut to,
+        &mut g,
+        &mut b,
+        &mut g_fr,
+        &mut b_fr,
+        &mut g_to,
+        &mut b_to,
+        &mut tap,
+        &mut shift,
+        &mut sw,
+    );
+    let Reading::Good(c) = read else {
+        return Answered::Unread(read);
+    };
+    let start = c.start;
+    let rows = c.rows;
+    let found = solve_branch_rows(
+        rows,
+        start,
+        kind,
+        vm_set,
+        pd,
+        qd,
+        pg,
+        qg,
+        vm_case,
+        va_case,
+        slacks,
+        va_slacks,
+        gen_bus,
+        qmin,
+        qmax,
+        from,
+        to,
+        g,
+        b,
+        g_fr,
+        b_fr,
+        g_to,
+        b_to,
+        tap,
+        shift,
+        sw,
+        vm,
+        va,
+        p,
+        q,
+        kinds,
+        w,
+    );
+    Answered::Read(rows.buses, found)
+}
+
+// ---- both
+
+// Reads a text and solves its tables, by the rules of its edition. The columns hold a solved answer.
+pub fn answer(
+    text: &[u8],
+    vm: &mut [f64; 32],
+    va: &mut [f64; 32],
+    p: &mut [f64; 32],
+    q: &mut [f64; 32],
+    kinds: &mut [u8; 32],
+    w: &mut [f64],
+) -> Answered
+    ensures { λ r.
+        let o = outs (now (vm .entry)) (now (va .entry)) (now (p .entry)) (now (q .entry)) (now (kinds .entry)) in
+        let e = outs (now (vm .exit)) (now (va .exit)) (now (p .exit)) (now (q .exit)) (now (kinds .exit)) in
+        ⌜ (textAnswer (busesIn r) (paperIn r) e (now (w .exit)) ≡ textAnswerOf (now (text .entry)) o (now (w .entry))) × (busesIn r ≤ 32) ⌝ }
+{
+    let x = trailer::edition_of(text);
+    match x {
+        Edition::First => answer_first(text, vm, va, p, q, kinds, w),
+        Edition::Second => answer_second(text, vm, va, p, q, kinds, w),
+    }
 }
