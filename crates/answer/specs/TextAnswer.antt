@@ -1,5 +1,5 @@
 -- The answer of a case text: the reading by its edition's rules joined to that edition's solve. What is printed of it stands in `report`.
-
+pub mod Laws
 use Prim.Native.Nat.{ℕ}
 use mathlib.Core.List.{List, []}
 use lib.ListN.{replicate}

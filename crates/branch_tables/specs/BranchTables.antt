@@ -1,6 +1,7 @@
 -- 02, Ask 3: what the solve over tables of branches answers, and what it leaves in the five answer columns and in the workspace, refusals included.
 pub mod Laws
 pub mod Withheld
+pub mod Space
 use Prim.Native.Nat.{ℕ, _≤_}
 use mathlib.Core.Bool.{cond}
 use mathlib.Core.List.{List}

@@ -152,7 +152,7 @@ module _ (t : BranchNetwork) (m : Lengths) (space : ℕ) (passed : Passed t m sp
       let room = one-per-bus _ _ _ (bare-met .is-roomy) in
       record { fit = passed-fit; indexed = passed-indexed; columns = room .0; workspace = room .1 }
 
-  built-ready : Checked.Ready ≡ checkedOf (builtNetwork t) m space
+  pub built-ready : Checked.Ready ≡ checkedOf (builtNetwork t) m space
   built-ready = met-ready (builtNetwork t) m space passed-indexed (bare-met .is-roomy)
 
 -- ---- what it tells that the tables are ready
