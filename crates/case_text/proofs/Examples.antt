@@ -42,6 +42,10 @@ pub listing-text : textOf listing ≡ Reading.Good listing-contents
 unfolding textBy editionOf bytesOf partBy bodyBy trailerOf risingOf knownOf sectionBy fieldsBy allSome pieces upto past has digits number counted allowed amountBy
 listing-text = refl
 
+pub listing-edition : editionOf listing ≡ First
+unfolding editionOf
+listing-edition = refl
+
 listing-first : checkedText First listing ≡ Reading.Good listing-contents
 unfolding textBy bytesOf partBy bodyBy trailerOf risingOf knownOf sectionBy fieldsBy allSome pieces upto past has digits number counted allowed amountBy
 listing-first = refl

@@ -9,11 +9,11 @@ use lib.Ieee.{Float, isNan, neg, ofInt, ofBits, toBits}
 use Rattle.real.specs.Tests.{both}
 use Rattle.real.specs.Literals.{double}
 use Rattle.network.specs.Network.{roomOf, fitsOf, firstRows}
-use Rattle.case_text.proofs.Examples.{listing, listing-contents, listing-tables, listing-read}
+use Rattle.case_text.proofs.Examples.{listing, listing-contents, listing-tables, listing-edition, listing-read}
 use Rattle.tables.specs.Tables.{ok, lengthsIn, roomy, zeros}
 use Rattle.tables.proofs.Examples as Solved
 use Rattle.lines.specs.Lines.{decimalBy, printedReal, okLine, busLine, busLines}
-use Rattle.answer.specs.TextAnswer.{blank, afterReading, textAnswerBy}
+use Rattle.answer.specs.TextAnswer.{blank, afterFirst, textAnswerBy}
 use Rattle.report.specs.Report.{blanks, printedOf, reported, reportBy, reportOf}
 
 -- `ok 0 0000000000000000`
@@ -47,5 +47,5 @@ rows-fit = refl
 pub listing-reported : (w : List Float) → leb 6144 (length w) ≡ true → reportOf listing w ≡ record { bytes = first-line ++ second-line; space = zeros w }
 unfolding reportBy textAnswerBy
 listing-reported w h =
-    ap (λ r. reported (afterReading r blanks w)) (listing-read blank rows-fit)
-    ∙ rw (same-network, Solved.listing-solved blanks w (room w h)) (rw same-lines refl)
+    rw listing-edition
+    (ap (λ r. reported (afterFirst r blanks w)) (listing-read blank rows-fit) ∙ rw (same-network, Solved.listing-solved blanks w (room w h)) (rw same-lines refl))

@@ -8,6 +8,8 @@ use lib.Ieee.{Float}
 use Rattle.real.specs.Paper.{Paper, given, refused}
 use Rattle.real.specs.Literals.{nought}
 use Rattle.fields.specs.Real.{DigitRule, allowed}
+use Rattle.trailer.specs.Trailer.{editionOf}
+use Rattle.trailer.specs.declared.Edition.{Edition}
 use Rattle.case_text.specs.declared.Contents.{Contents}
 use Rattle.tables.specs.Tables.{Outs, outs}
 use Rattle.answer.specs.TextAnswer.{TextAnswer, textAnswerBy}
@@ -39,12 +41,13 @@ refusalOf (refused number values) = refusedLine number values
 abbrev pub reported : TextAnswer → Report
 reported a = record { bytes = printedOf (a .buses) (a .paper) (a .columns); space = a .space }
 
--- its reals read by a digit rule, and by 02's
-unfoldable pub reportBy : DigitRule → List ℕ → List Float → Report
-reportBy rule s w = reported (textAnswerBy rule s blanks w)
+-- by an edition's rules, its reals read by a digit rule
+unfoldable pub reportBy : DigitRule → Edition → List ℕ → List Float → Report
+reportBy rule e s w = reported (textAnswerBy rule e s blanks w)
 
+-- by 02's digit rule and those of the text's own edition
 abbrev pub reportOf : List ℕ → List Float → Report
-reportOf = reportBy allowed
+reportOf s w = reportBy allowed (editionOf s) s w
 
 -- the report stands at the buffer's beginning, and the workspace is as the definition leaves it
 pub record Reported (r : Report) (before : List ℕ) (end : ℕ) (after : List ℕ) (space : List Float) : Type 0 where
