@@ -1,6 +1,6 @@
 -- What a record of the input says of a text's reading: the answer, and every place of every column (oracle/text_vectors.py has the format).
 use mathlib.Core.Path.{_≡_}
-use mathlib.Core.Bool.{cond}
+use mathlib.Core.Bool.{Bool, cond}
 use mathlib.Core.List.{List, [], _∷_}
 use Prim.Native.Nat.{ℕ, _+_, _*_, min}
 use lib.Dec.{eqb}
@@ -10,11 +10,14 @@ use Rattle.real.specs.declared.Value.the-variants.{Whole}
 use Rattle.real.specs.Paper.{Paper, given, refused, placeIn}
 use Rattle.real.specs.Each.{each}
 use Rattle.real.specs.Literals.{lit}
-use Rattle.vectors.specs.Words.{pairOf, wordOf}
-use Rattle.trailer.specs.Trailer.{modeOf}
+use Rattle.vectors.specs.Words.{pairOf, wordOf, Tells}
+use Rattle.trailer.specs.Trailer.{flagged, modeOf}
+use Rattle.trailer.specs.declared.Edition.{Edition}
+use Rattle.trailer.specs.declared.Edition.the-variants.{First, Second}
 use Rattle.network.specs.declared.Rows.{Rows}
 use Rattle.network.specs.Network.{Buses, Slacks, Generators, Branches, Triplets, Network, busesOf, slacksOf, generatorsOf, branchesOf, tripletsOf, networkOf, rowCounts}
-use Rattle.case_text.specs.Answer.{ReadResult, readResult, readOf}
+use Rattle.network.specs.BranchTable.{Values, BranchTable, valuesOf, branchTableOf}
+use Rattle.case_text.specs.Answer.{ReadResult, readResult, Columns, columnsOf, readOf}
 use Rattle.case_text.specs.declared.Contents.{Contents}
 
 -- an answer's number, 0 of a good one, and its place, 0 where it has none
@@ -38,12 +41,28 @@ answer n at c = cond (eqb n 0) (given c) (refusal n at)
 abbrev pub rowsIn : List ℕ → ℕ → ℕ
 rowsIn s j = pairOf (10 + j * 4) s
 
+-- the branches' rows are those of the lines L or K, and only the first edition has triplets
+abbrev pub branchRows : Edition → List ℕ → ℕ
+branchRows First s = rowsIn s 13
+branchRows Second s = rowsIn s 19
+
+abbrev pub tripletRows : Edition → List ℕ → ℕ
+tripletRows First s = rowsIn s 15
+tripletRows Second s = 0
+
 -- the rows of each table are those of its first column
-abbrev pub rowsTold : List ℕ → Rows
-rowsTold s = rowCounts (rowsIn s 0) (rowsIn s 8) (rowsIn s 10) (rowsIn s 13) (rowsIn s 15)
+abbrev pub rowsTold : Edition → List ℕ → Rows
+rowsTold e s = rowCounts (rowsIn s 0) (rowsIn s 8) (rowsIn s 10) (branchRows e s) (tripletRows e s)
+
+-- the edition of a letter of the trailer
+abbrev pub editionBy : ℕ → Edition
+editionBy letter = cond (flagged Second letter) Second First
+
+abbrev pub contentsBy : Edition → List ℕ → Contents
+contentsBy e s = record { edition = e; start = modeOf e (pairOf 4 s); rows = rowsTold e s }
 
 abbrev pub contentsTold : List ℕ → Contents
-contentsTold s = record { start = modeOf (pairOf 4 s); rows = rowsTold s }
+contentsTold s = contentsBy (editionBy (pairOf 4 s)) s
 
 abbrev pub paperTold : List ℕ → Paper Contents
 paperTold s = answer (pairOf 0 s) (pairOf 2 s) (contentsTold s)
@@ -73,14 +92,25 @@ slacksTold s = slacksOf (numbersTold s 8) (realsTold s 9)
 abbrev pub generatorsTold : List ℕ → Generators
 generatorsTold s = generatorsOf (numbersTold s 10) (realsTold s 11) (realsTold s 12)
 
-abbrev pub branchesTold : List ℕ → Branches
-branchesTold s = branchesOf (numbersTold s 13) (numbersTold s 14)
+-- columns j and j + 1, of the lines L and of the lines K
+abbrev pub branchesTold : List ℕ → ℕ → Branches
+branchesTold s j = branchesOf (numbersTold s j) (numbersTold s (j + 1))
 
 abbrev pub tripletsTold : List ℕ → Triplets
 tripletsTold s = tripletsOf (numbersTold s 15) (numbersTold s 16) (realsTold s 17) (realsTold s 18)
 
-abbrev pub outcomeTold : List ℕ → ReadResult
-outcomeTold s = readResult (paperTold s) (networkOf (busesTold s) (slacksTold s) (generatorsTold s) (branchesTold s) (tripletsTold s))
+abbrev pub valuesTold : List ℕ → Values
+valuesTold s =
+    valuesOf (realsTold s 21) (realsTold s 22) (realsTold s 23) (realsTold s 24) (realsTold s 25) (realsTold s 26) (realsTold s 27) (realsTold s 28) (realsTold s 29)
+
+abbrev pub networkTold : List ℕ → Network
+networkTold s = networkOf (busesTold s) (slacksTold s) (generatorsTold s) (branchesTold s 13) (tripletsTold s)
+
+abbrev pub branchTableTold : List ℕ → BranchTable
+branchTableTold s = branchTableOf (branchesTold s 19) (valuesTold s)
+
+abbrev pub outcomeTold : List ℕ → ReadResult Columns
+outcomeTold s = readResult (paperTold s) (columnsOf (networkTold s) (branchTableTold s))
 
 -- the mark that stands in every place before a reading: 251 is no kind's byte and no bus number of these texts, and no real of 15 digits is 1e300
 abbrev pub numberMark : ℕ
@@ -90,12 +120,32 @@ abbrev pub realMark : Float
 realMark = lit 0x7e37_e43c_8800_759c
 
 -- the first m places of columns of marks
-abbrev pub marks : ℕ → Network
-marks m =
+abbrev pub networkMarks : ℕ → Network
+networkMarks m =
     let n = take m (replicate 258 numberMark) in
     let x = take m (replicate 258 realMark) in
     networkOf (busesOf n x x x x x x x) (slacksOf n x) (generatorsOf n x x) (branchesOf n n) (tripletsOf n n x x)
 
+abbrev pub branchTableMarks : ℕ → BranchTable
+branchTableMarks m =
+    let n = take m (replicate 258 numberMark) in
+    let x = take m (replicate 258 realMark) in
+    branchTableOf (branchesOf n n) (valuesOf x x x x x x x x x)
+
 -- the reader's definition gives what the record says of the text
 abbrev pub Agrees : List ℕ → List ℕ → Type 0
-Agrees text s = readOf text (marks (widthTold s)) ≡ outcomeTold s
+Agrees text s = readOf text (columnsOf (networkMarks (widthTold s)) (branchTableMarks (widthTold s))) ≡ outcomeTold s
+
+-- ---- a reading into marks and a given table of branches
+
+abbrev pub tableIn : ReadResult Columns → BranchTable
+tableIn (readResult p c) = c .table
+
+-- the same reading with another table of branches
+abbrev pub withTable : BranchTable → ReadResult Columns → ReadResult Columns
+withTable t (readResult p c) = readResult p (columnsOf (c .network) t)
+
+-- it leaves this table, and r tells whether all else is as the record says
+pub record TellsRest (text s : List ℕ) (old new : BranchTable) (r : Bool) : Type 0 where
+  pub table : tableIn (readOf text (columnsOf (networkMarks (widthTold s)) old)) ≡ new
+  pub rest : Tells r (withTable (branchTableTold s) (readOf text (columnsOf (networkMarks (widthTold s)) old)) ≡ outcomeTold s)

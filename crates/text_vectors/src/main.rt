@@ -5,18 +5,20 @@ ghost use Prim.Native.Nat.{_+_, _*_, _≤_, _<_};
 ghost use lib.ListN.{take};
 ghost use Rattle.vectors.specs.Words.{pairOf, Tells, Found};
 ghost use Rattle.network.specs.Network.{busesOf, slacksOf, generatorsOf, branchesOf, tripletsOf, firstBuses, firstSlacks, firstGenerators, firstBranches, firstTriplets};
-ghost use Rattle.trailer.specs.Trailer.{modeOf};
+ghost use Rattle.network.specs.BranchTable.{valuesOf, branchTableOf, firstValues};
+ghost use Rattle.trailer.specs.Trailer.{flatLetter, modeOf};
 ghost use Rattle.real.specs.Paper.{given};
 ghost use Rattle.case_text.specs.Answer.{paperOf};
-ghost use Rattle.text_vectors.specs.Told.{numberIn, placeOf, refusal, rowsIn, rowsTold, paperTold, widthTold, wordTold, numbersTold, realsTold};
-ghost use Rattle.text_vectors.specs.Told.{busesTold, slacksTold, generatorsTold, branchesTold, tripletsTold, Agrees};
+ghost use Rattle.text_vectors.specs.Told.{numberIn, placeOf, refusal, rowsIn, branchRows, tripletRows, rowsTold, editionBy, paperTold, widthTold, wordTold, numbersTold, realsTold};
+ghost use Rattle.text_vectors.specs.Told.{busesTold, slacksTold, generatorsTold, branchesTold, tripletsTold, valuesTold, Agrees, TellsRest};
 use libc::STDIN_FILENO;
 use starts::AcStart;
+use trailer::Edition;
 
 // The record is s throughout, with room for any: a start and rows of two bytes each lead no further than 65,535 + 65,536 * 8. j counts the columns in read_case's order.
 
 fn rows(s: &[u8; 600000], j: usize) -> usize
-    requires { ⌜ j < 19 ⌝ }
+    requires { ⌜ j < 30 ⌝ }
     ensures { λ r. ⌜ (r ≡ rowsIn (now (s .entry)) j) × (r < 65536) ⌝ }
 {
     vectors::pair(s, 10 + j * 4)
@@ -31,7 +33,7 @@ fn width(s: &[u8; 600000]) -> usize
 
 // What the input says of place i of column j.
 fn told(s: &[u8; 600000], j: usize, i: usize) -> u64
-    requires { ⌜ j < 19 ⌝ }
+    requires { ⌜ j < 30 ⌝ }
     ensures { λ r. ⌜ r ≡ wordTold (now (s .entry)) j i ⌝ }
 {
     let k = real::least(i, rows(s, j));
@@ -40,7 +42,7 @@ fn told(s: &[u8; 600000], j: usize, i: usize) -> u64
 
 // Whether a column's lent places hold what the input says; one function for each type of element.
 fn kinds(s: &[u8; 600000], j: usize, col: &[u8; 258]) -> bool
-    requires { ⌜ j < 19 ⌝ }
+    requires { ⌜ j < 30 ⌝ }
     ensures { λ r. ⌜ Tells r (take (widthTold (now (s .entry))) (now (col .entry)) ≡ numbersTold (now (s .entry)) j) ⌝ }
 {
     let col: &[u8] = col;
@@ -56,7 +58,7 @@ fn kinds(s: &[u8; 600000], j: usize, col: &[u8; 258]) -> bool
 }
 
 fn numbers(s: &[u8; 600000], j: usize, col: &[usize; 258]) -> bool
-    requires { ⌜ j < 19 ⌝ }
+    requires { ⌜ j < 30 ⌝ }
     ensures { λ r. ⌜ Tells r (take (widthTold (now (s .entry))) (now (col .entry)) ≡ numbersTold (now (s .entry)) j) ⌝ }
 {
     let col: &[usize] = col;
@@ -72,7 +74,7 @@ fn numbers(s: &[u8; 600000], j: usize, col: &[usize; 258]) -> bool
 }
 
 fn reals(s: &[u8; 600000], j: usize, col: &[f64; 258]) -> bool
-    requires { ⌜ j < 19 ⌝ }
+    requires { ⌜ j < 30 ⌝ }
     ensures { λ r. ⌜ Tells r (take (widthTold (now (s .entry))) (now (col .entry)) ≡ realsTold (now (s .entry)) j) ⌝ }
 {
     let col: &[f64] = col;
@@ -133,32 +135,73 @@ fn refused(s: &[u8; 600000], n: usize, at: usize) -> bool
     at == vectors::pair(s, 2)
 }
 
-fn starts(m: AcStart, letter: usize) -> bool
-    ensures { λ r. ⌜ Tells r (m ≡ modeOf letter) ⌝ }
+// Whether a letter of the trailer is of this edition, whose are f and c if it is the second.
+fn editions(e: Edition, letter: usize) -> bool
+    ensures { λ r. ⌜ Tells r (e ≡ editionBy letter) ⌝ }
 {
-    let AcStart::Flat = m else {
-        return letter != 70;
+    let second = (letter == 102) | (letter == 99);
+    let Edition::First = e else {
+        return second;
     };
-    letter == 70
+    !second
+}
+
+fn flat_letter(e: Edition) -> usize
+    ensures { λ r. ⌜ r ≡ flatLetter e ⌝ }
+{
+    match e {
+        Edition::First => 70,
+        Edition::Second => 102,
+    }
+}
+
+fn starts(m: AcStart, e: Edition, letter: usize) -> bool
+    ensures { λ r. ⌜ Tells r (m ≡ modeOf e letter) ⌝ }
+{
+    let flat = flat_letter(e);
+    let AcStart::Flat = m else {
+        return letter != flat;
+    };
+    letter == flat
+}
+
+fn branch_rows(s: &[u8; 600000], e: Edition) -> usize
+    ensures { λ r. ⌜ r ≡ branchRows e (now (s .entry)) ⌝ }
+{
+    match e {
+        Edition::First => rows(s, 13),
+        Edition::Second => rows(s, 19),
+    }
+}
+
+fn triplet_rows(s: &[u8; 600000], e: Edition) -> usize
+    ensures { λ r. ⌜ r ≡ tripletRows e (now (s .entry)) ⌝ }
+{
+    match e {
+        Edition::First => rows(s, 15),
+        Edition::Second => 0,
+    }
 }
 
 // Whether the input says these rows: a table's are those of its first column.
-fn rows_agree(s: &[u8; 600000], r: network::Rows) -> bool
-    ensures { λ t. ⌜ Tells t (r ≡ rowsTold (now (s .entry))) ⌝ }
+fn rows_agree(s: &[u8; 600000], e: Edition, r: network::Rows) -> bool
+    ensures { λ t. ⌜ Tells t (r ≡ rowsTold e (now (s .entry))) ⌝ }
 {
     (r.buses == rows(s, 0))
         & (r.slacks == rows(s, 8))
         & (r.generators == rows(s, 10))
-        & (r.branches == rows(s, 13))
-        & (r.triplets == rows(s, 15))
+        & (r.branches == branch_rows(s, e))
+        & (r.triplets == triplet_rows(s, e))
 }
 
 fn good(s: &[u8; 600000], c: case_text::Contents) -> bool
     ensures { λ r. ⌜ Tells r (given c ≡ paperTold (now (s .entry))) ⌝ }
 {
+    let e = c.edition;
     let m = c.start;
     let r = c.rows;
-    (vectors::pair(s, 0) == 0) & starts(m, vectors::pair(s, 4)) & rows_agree(s, r)
+    let letter = vectors::pair(s, 4);
+    (vectors::pair(s, 0) == 0) & editions(e, letter) & starts(m, e, letter) & rows_agree(s, e, r)
 }
 
 fn answered(s: &[u8; 600000], v: case_text::Reading) -> bool
@@ -220,12 +263,14 @@ fn generators_agree(
     numbers(s, 10, gen_bus) & reals(s, 11, qmin) & reals(s, 12, qmax)
 }
 
-fn branches_agree(s: &[u8; 600000], br_from: &[usize; 258], br_to: &[usize; 258]) -> bool
+// The ends of lines: j is the first of their two columns.
+fn branches_agree(s: &[u8; 600000], j: usize, from: &[usize; 258], to: &[usize; 258]) -> bool
+    requires { ⌜ j + 1 < 30 ⌝ }
     ensures { λ r.
         let m = widthTold (now (s .entry)) in
-        ⌜ Tells r (firstBranches m (branchesOf (now («br_from» .entry)) (now («br_to» .entry))) ≡ branchesTold (now (s .entry))) ⌝ }
+        ⌜ Tells r (firstBranches m (branchesOf (now (from .entry)) (now (to .entry))) ≡ branchesTold (now (s .entry)) j) ⌝ }
 {
-    numbers(s, 13, br_from) & numbers(s, 14, br_to)
+    numbers(s, j, from) & numbers(s, j + 1, to)
 }
 
 fn triplets_agree(
@@ -242,11 +287,59 @@ fn triplets_agree(
     numbers(s, 15, y_row) & numbers(s, 16, y_col) & reals(s, 17, y_re) & reals(s, 18, y_im)
 }
 
+fn values_agree(
+    s: &[u8; 600000],
+    g: &[f64; 258],
+    b: &[f64; 258],
+    g_fr: &[f64; 258],
+    b_fr: &[f64; 258],
+    g_to: &[f64; 258],
+    b_to: &[f64; 258],
+    tap: &[f64; 258],
+    shift: &[f64; 258],
+    sw: &[f64; 258],
+) -> bool
+    ensures { λ r.
+        let m = widthTold (now (s .entry)) in
+        let t = valuesOf (now (g .entry)) (now (b .entry)) (now («g_fr» .entry)) (now («b_fr» .entry)) (now («g_to» .entry)) (now («b_to» .entry)) (now (tap .entry)) (now (shift .entry)) (now (sw .entry)) in
+        ⌜ Tells r (firstValues m t ≡ valuesTold (now (s .entry))) ⌝ }
+{
+    reals(s, 21, g)
+        & reals(s, 22, b)
+        & reals(s, 23, g_fr)
+        & reals(s, 24, b_fr)
+        & reals(s, 25, g_to)
+        & reals(s, 26, b_to)
+        & reals(s, 27, tap)
+        & reals(s, 28, shift)
+        & reals(s, 29, sw)
+}
+
 // ---- the whole
 
-// Whether the reading of a text, into the first places of columns of marks, is as the record says.
-fn agrees(text: &[u8], s: &[u8; 600000]) -> bool
-    ensures { λ r. ⌜ Tells r (Agrees (now (text .entry)) (now (s .entry))) ⌝ }
+// Whether the reading of a text, into the first places of columns of marks and the eleven columns of a table of branches, is as the record says, but for this
+// table, which is the caller's to look at.
+fn rest_agrees(
+    text: &[u8],
+    s: &[u8; 600000],
+    from: &mut [usize],
+    to: &mut [usize],
+    g: &mut [f64],
+    b: &mut [f64],
+    g_fr: &mut [f64],
+    b_fr: &mut [f64],
+    g_to: &mut [f64],
+    b_to: &mut [f64],
+    tap: &mut [f64],
+    shift: &mut [f64],
+    sw: &mut [f64],
+) -> bool
+    ensures { λ r.
+        let old = branchTableOf (branchesOf (now (from .entry)) (now (to .entry)))
+        (valuesOf (now (g .entry)) (now (b .entry)) (now («g_fr» .entry)) (now («b_fr» .entry)) (now («g_to» .entry)) (now («b_to» .entry)) (now (tap .entry)) (now (shift .entry)) (now (sw .entry))) in
+        let new = branchTableOf (branchesOf (now (from .exit)) (now (to .exit)))
+        (valuesOf (now (g .exit)) (now (b .exit)) (now («g_fr» .exit)) (now («b_fr» .exit)) (now («g_to» .exit)) (now («b_to» .exit)) (now (tap .exit)) (now (shift .exit)) (now (sw .exit))) in
+        ⌜ TellsRest (now (text .entry)) (now (s .entry)) old new r ⌝ }
 {
     let m = width(s);
     let mut kind = [251u8; 258];
@@ -289,13 +382,60 @@ fn agrees(text: &[u8], s: &[u8; 600000]) -> bool
         &mut y_col[..m],
         &mut y_re[..m],
         &mut y_im[..m],
+        from,
+        to,
+        g,
+        b,
+        g_fr,
+        b_fr,
+        g_to,
+        b_to,
+        tap,
+        shift,
+        sw,
     );
     answered(s, v)
         & buses_agree(s, &kind, &vm_set, &pd, &qd, &pg, &qg, &vm_case, &va_case)
         & slacks_agree(s, &slacks, &va_slacks)
         & generators_agree(s, &gen_bus, &qmin, &qmax)
-        & branches_agree(s, &br_from, &br_to)
+        & branches_agree(s, 13, &br_from, &br_to)
         & triplets_agree(s, &y_row, &y_col, &y_re, &y_im)
+}
+
+// Whether the whole reading is as the record says, the table of branches too being marks before it.
+fn agrees(text: &[u8], s: &[u8; 600000]) -> bool
+    ensures { λ r. ⌜ Tells r (Agrees (now (text .entry)) (now (s .entry))) ⌝ }
+{
+    let m = width(s);
+    let mut from = [251usize; 258];
+    let mut to = [251usize; 258];
+    let mut g = [1e300; 258];
+    let mut b = [1e300; 258];
+    let mut g_fr = [1e300; 258];
+    let mut b_fr = [1e300; 258];
+    let mut g_to = [1e300; 258];
+    let mut b_to = [1e300; 258];
+    let mut tap = [1e300; 258];
+    let mut shift = [1e300; 258];
+    let mut sw = [1e300; 258];
+    let rest = rest_agrees(
+        text,
+        s,
+        &mut from[..m],
+        &mut to[..m],
+        &mut g[..m],
+        &mut b[..m],
+        &mut g_fr[..m],
+        &mut b_fr[..m],
+        &mut g_to[..m],
+        &mut b_to[..m],
+        &mut tap[..m],
+        &mut shift[..m],
+        &mut sw[..m],
+    );
+    rest
+        & branches_agree(s, 19, &from, &to)
+        & values_agree(s, &g, &b, &g_fr, &b_fr, &g_to, &b_to, &tap, &shift, &sw)
 }
 
 // One text: 0 where its reading agrees, 1 where it differs, 2 where the input has no whole record left.

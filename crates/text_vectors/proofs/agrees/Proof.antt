@@ -1,9 +1,10 @@
--- `text_vectors::agrees` meets its contract: the first places of columns of marks are lent to the reader, and then compared. Assumes nothing.
+-- `text_vectors::agrees` meets its contract: the first places of a table of marks are lent to the reading, and then compared. Assumes nothing.
 use native.Mathlib.Omega.{arith}
 use borrow.Author.Needs.{needs}
 use Rattle.vectors.specs.Words.Laws.{same-told}
 use Rattle.vectors.specs.Sizes.{lent}
-use Rattle.network.specs.Network.{busesOf, slacksOf, generatorsOf, branchesOf, tripletsOf}
+use Rattle.network.specs.Network.{branchesOf}
+use Rattle.network.specs.BranchTable.{valuesOf}
 use Rattle.text_vectors.specs.Told.{numberMark, realMark}
 use Rattle.text_vectors.proofs.Papers.{outcome-told}
 use Rattle.text_vectors.proofs.Telling.{given-back}
@@ -12,37 +13,21 @@ use Rattle.text_vectors.proofs.agrees.Tie as tie
 
 returns : tie.Need-returns
 returns c =
-    let branches = c .before .before .before .before .before in
-    let generators = branches .before .before .before in
-    let slacks = generators .before .before .before .before in
-    let buses = slacks .before .before .before in
-    let answered = buses .before .before .before .before .before .before .before .before .before in
-    let read = answered .before .before .before .before .before .before .before .before .before .before .before .before .before .before .before .before .before .before .before .before in
-    let width = read .before .before .before .before .before .before .before .before .before .before .before .before .before .before .before .before .before .before .before .before in
+    let branches = c .before .before .before .before .before .before .before .before .before .before in
+    let read = branches .before .before .before .before .before .before .before .before .before .before .before .before .before .before in
+    let width = read .before .before .before .before .before .before .before .before .before .before .before .before in
     let m = width .width .ensures .0 in
     let few = width .width .ensures .1 in
-    let is = rw m at (read .read-case .ensures) in
     let n = given-back 258 numberMark few m in
     let x = given-back 258 realMark few m in
-    let lb = read .read-case .last .1 in
-    let lr = lb .1 .1 .1 .1 .1 .1 .1 .1 in
-    let lg = lr .1 .1 in
-    let ll = lg .1 .1 .1 in
-    let ly = ll .1 .1 in
-    let kb = read .read-case .kept .1 in
-    let kr = kb .1 .1 .1 .1 .1 .1 .1 .1 in
-    let kg = kr .1 .1 in
-    let kl = kg .1 .1 .1 in
-    let ky = kl .1 .1 in
-    outcome-told _ (width .before .before .args .s .now) is (answered .answered .ensures)
-    (same-told (λ i. busesOf (n (lb .0) (kb .0) i) (x (lb .1 .0) (kb .1 .0) i) (x (lb .1 .1 .0) (kb .1 .1 .0) i)
-    (x (lb .1 .1 .1 .0) (kb .1 .1 .1 .0) i) (x (lb .1 .1 .1 .1 .0) (kb .1 .1 .1 .1 .0) i) (x (lb .1 .1 .1 .1 .1 .0) (kb .1 .1 .1 .1 .1 .0) i)
-    (x (lb .1 .1 .1 .1 .1 .1 .0) (kb .1 .1 .1 .1 .1 .1 .0) i) (x (lb .1 .1 .1 .1 .1 .1 .1 .0) (kb .1 .1 .1 .1 .1 .1 .1 .0) i))
-    (buses .buses-agree .ensures))
-    (same-told (λ i. slacksOf (n (lr .0) (kr .0) i) (x (lr .1 .0) (kr .1 .0) i)) (slacks .slacks-agree .ensures))
-    (same-told (λ i. generatorsOf (n (lg .0) (kg .0) i) (x (lg .1 .0) (kg .1 .0) i) (x (lg .1 .1 .0) (kg .1 .1 .0) i)) (generators .generators-agree .ensures))
-    (same-told (λ i. branchesOf (n (ll .0) (kl .0) i) (n (ll .1 .0) (kl .1 .0) i)) (branches .branches-agree .ensures))
-    (same-told (λ i. tripletsOf (n (ly .0) (ky .0) i) (n (ly .1 .0) (ky .1 .0) i) (x (ly .1 .1 .0) (ky .1 .1 .0) i) (x (ly .1 .1 .1 .0) (ky .1 .1 .1 .0) i)) (c .triplets-agree .ensures))
+    let le = read .rest-agrees .last .1 .1 in
+    let lv = le .1 .1 in
+    let ke = read .rest-agrees .kept .1 .1 in
+    let kv = ke .1 .1 in
+    outcome-told _ (width .before .before .args .s .now) (rw m at (read .rest-agrees .ensures .table)) (rw m at (read .rest-agrees .ensures .rest))
+    (same-told (λ i. branchesOf (n (le .0) (ke .0) i) (n (le .1 .0) (ke .1 .0) i)) (branches .branches-agree .ensures))
+    (same-told (λ i. valuesOf (x (lv .0) (kv .0) i) (x (lv .1 .0) (kv .1 .0) i) (x (lv .1 .1 .0) (kv .1 .1 .0) i) (x (lv .1 .1 .1 .0) (kv .1 .1 .1 .0) i) (x (lv .1 .1 .1 .1 .0) (kv .1 .1 .1 .1 .0) i) (x (lv .1 .1 .1 .1 .1 .0) (kv .1 .1 .1 .1 .1 .0) i) (x (lv .1 .1 .1 .1 .1 .1 .0) (kv .1 .1 .1 .1 .1 .1 .0) i) (x (lv .1 .1 .1 .1 .1 .1 .1 .0) (kv .1 .1 .1 .1 .1 .1 .1 .0) i) (x (lv .1 .1 .1 .1 .1 .1 .1 .1 .0) (kv .1 .1 .1 .1 .1 .1 .1 .1 .0) i))
+    (c .values-agree .ensures))
 
 pub agrees-spec : {M : Type 1} → statement M
 agrees-spec =
@@ -51,8 +36,5 @@ agrees-spec =
     (λ c. search needs) (λ c. lent 258 _ (omega arith)) (λ c. search needs) (λ c. lent 258 _ (omega arith)) (λ c. search needs)
     (λ c. lent 258 _ (omega arith)) (λ c. search needs) (λ c. lent 258 _ (omega arith)) (λ c. search needs) (λ c. lent 258 _ (omega arith))
     (λ c. search needs) (λ c. lent 258 _ (omega arith)) (λ c. search needs) (λ c. lent 258 _ (omega arith)) (λ c. search needs)
-    (λ c. lent 258 _ (omega arith)) (λ c. search needs) (λ c. lent 258 _ (omega arith)) (λ c. search needs) (λ c. lent 258 _ (omega arith))
-    (λ c. search needs) (λ c. lent 258 _ (omega arith)) (λ c. search needs) (λ c. lent 258 _ (omega arith)) (λ c. search needs)
-    (λ c. lent 258 _ (omega arith)) (λ c. search needs) (λ c. lent 258 _ (omega arith)) (λ c. search needs) (λ c. lent 258 _ (omega arith))
-    (λ c. search needs) (λ c. lent 258 _ (omega arith)) (λ c. search needs) (λ c. lent 258 _ (omega arith)) (λ c κs. search needs)
-    (λ c κs. search needs) (λ c κs. search needs) (λ c κs. search needs) (λ c κs. search needs) (λ c κs. search needs) (λ c κs. search needs) returns)
+    (λ c. lent 258 _ (omega arith)) (λ c. search needs) (λ c. lent 258 _ (omega arith)) (λ c κs. search needs) (λ c κs. search needs)
+    (λ c κs. search needs) returns)

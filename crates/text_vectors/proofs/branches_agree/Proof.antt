@@ -11,4 +11,4 @@ returns c =
     (λ (x0, x1). λ i. record { from = x0 i; to = x1 i })
 
 pub branches-agree-spec : {M : Type 1} → statement M
-branches-agree-spec = tie.close (tie.spec (λ c κs. search needs) (λ c κs. search needs) returns)
+branches-agree-spec = tie.close (tie.spec (λ c κs. search needs) (λ c. search needs) (λ c κs. search needs) returns)

@@ -6,11 +6,11 @@ use Rattle.text_vectors.proofs.rows_agree.Tie as tie
 
 returns : tie.Need-returns
 returns c =
-    let rows4 = c .before .before .before in
-    let rows3 = rows4 .before .before in
+    let branches = c .before .before .before in
+    let rows3 = branches .before .before in
     let rows2 = rows3 .before .before in
     let rows = rows2 .before .before in
-    rw (rows .rows .ensures .0, rows2 .rows2 .ensures .0, rows3 .rows3 .ensures .0, rows4 .rows4 .ensures .0, c .before .rows5 .ensures .0)
+    rw (rows .rows .ensures .0, rows2 .rows2 .ensures .0, rows3 .rows3 .ensures .0, branches .branch-rows .ensures, c .before .triplet-rows .ensures)
     (rows-told (rows .before .args .r) _)
 
 pub rows-agree-spec : {M : Type 1} → statement M
