@@ -28,8 +28,12 @@ BRANCHED = [f.plain, f.plain, f.heavy, f.islands, f.no_slack, f.slacks, f.limits
             f.sparse, f.wild, f.distant, f.far_angle, f.late, f.no_bus]
 UNDRESSED = [f.late, f.late, f.cascade, f.stored, f.crossed]  # drawn as branches and left as they are, since what they are for is soon lost
 LARGE_BRANCHED = [f.all_branches, lambda rng: f.long(rng, f.good_branches)]
-DAMAGED = [lambda rng: f.trailer(rng, f.good_branches, b"0123456789 fcFCK\n"), lambda rng: f.alphabet(rng, f.good_branches),
-           lambda rng: f.struck(rng, f.good_branches, b" \n-.0159?BRGLYVQKfcx"), *[lambda rng: f.form(rng, f.good_branches, "BRGLYQK"), lambda rng: f.field(rng, f.good_branches)] * 2]
+DAMAGED = [
+    lambda rng: f.trailer(rng, f.good_branches, b"0123456789 fcFCK\n"),
+    lambda rng: f.alphabet(rng, f.good_branches),
+    lambda rng: f.struck(rng, f.good_branches, b" \n-.0159?BRGLYVQKfcx"),
+    *[lambda rng: f.form(rng, f.good_branches, "BRGLYQK"), lambda rng: f.field(rng, f.good_branches)] * 2,
+]
 # Families of which every member is drawn in turn, and how many there are.
 IN_TURN = {f.bad_rows: len(f.BAD) + len(f.NAMING_BRANCHED), f.short: len(f.LENGTHS), f.mixed: 2 * len(f.MIXED), f.over_branches: 12,
            f.flipped: len(f.transformer().text())}

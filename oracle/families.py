@@ -633,6 +633,21 @@ DRESSES = [taps, taps, shifts, shifts, far_shifts, off, off, switched, signed, s
            steep, mingled]
 
 
+def undressed(rng, family):
+    """A case of a family as one of branches."""
+    c = family(rng)
+    return Branched(c.start.lower(), c.buses, c.slacks, c.gens, branch_rows(c), c.digits)
+
+
+def branched(rng, family):
+    """The same; most are changed in what only branches have."""
+    c = undressed(rng, family)
+    for dress in rng.sample(DRESSES, rng.choice([0, 1, 2, 3])) if c.branches else []:
+        dress(rng, c.branches)
+    c.branches = c.branches[:BRANCHED["K"]]
+    return c
+
+
 def uneven_branches(rng):
     """A network of ordinary size and load, with every number another."""
     c = undressed(rng, lambda rng: network(rng, [rng.randrange(2, 9)], 0.5))
@@ -651,21 +666,6 @@ def tied(rng):
         c.slacks.pop()
         c.buses[-1] = [rng.choice("VQ"), 1, 0, 0, 0, 0, "?", "?"]
     c.branches.append([0, len(c.buses) - 1, 1.0, -5.0, *PLAIN[:-2], rng.choice([0, 0, 2000]), rng.choice([0, "-0"])])
-    return c
-
-
-def undressed(rng, family):
-    """A case of a family as one of branches."""
-    c = family(rng)
-    return Branched(c.start.lower(), c.buses, c.slacks, c.gens, branch_rows(c), c.digits)
-
-
-def branched(rng, family):
-    """The same; most are changed in what only branches have."""
-    c = undressed(rng, family)
-    for dress in rng.sample(DRESSES, rng.choice([0, 1, 2, 3])) if c.branches else []:
-        dress(rng, c.branches)
-    c.branches = c.branches[:BRANCHED["K"]]
     return c
 
 
@@ -724,7 +724,7 @@ MIXED = [
     lambda rng: line_among(rng, transformer(), 3, rng.choice([b"L 0 1\n", b"L 0 1 1 -8 0 0 0 0 1 0 1\n"])),
     lambda rng: line_among(rng, transformer(), 3, b"Y 0 0 2 -8\n"),
     lambda rng: line_among(rng, transformer(), 3, b"K 0 1\n"),
-    lambda rng: line_among(rng, transformer(), 3, ("K 0 1 " + " ".join(["?" if j == k else "1" for k in [rng.randrange(9)] for j in range(9)]) + "\n").encode()),
+    lambda rng: line_among(rng, transformer(), 3, b"K 0 1 " + b" ".join(rng.sample([b"?"] + [b"1"] * 8, 9)) + b"\n"),
     lambda rng: join("F", good_branches(rng).sections()),
     lambda rng: join("f", good(rng).sections()),
     lambda rng: join("C", [*good_branches(rng).sections(), b""]),
