@@ -181,3 +181,23 @@ pub minus-read : (i j : ℕ) (u v : Float)
     ≡ readResult (given (record { edition = First; start = Flat; rows = rowCounts 0 2 0 0 0 })) (no-rows (slacksOf (0 ∷ 1 ∷ []) (lit 0x8000_0000_0000_0000 ∷ lit 0xbfd0_0000_0000_0000 ∷ [])))
 unfolding both readFirstBy tablesBy textBy bytesOf partBy bodyBy trailerOf risingOf knownOf sectionBy ended fieldsBy allSome pieces upto past has digits number counted allowed amountBy ofBits div neg ofInt
 minus-read i j u v = refl
+
+pub point-edition : editionOf point-text ≡ First
+unfolding editionOf
+point-edition = refl
+
+-- 02, Ask 3: a second-edition text of 99 bytes. It has two `B` lines, `R 0 0`, `K 0 1 1 -8 0 0 0 0 1 0 1` and a trailer with `f`; by the first edition's rules it is refused 2
+abbrev branch-listing : List ℕ
+branch-listing =
+    66 ∷ 32 ∷ 81 ∷ 32 ∷ 49 ∷ 32 ∷ 48 ∷ 32 ∷ 48 ∷ 32 ∷ 48 ∷ 32 ∷ 48 ∷ 32 ∷ 63 ∷ 32 ∷ 63 ∷ 10 ∷ 66 ∷ 32 ∷ 81 ∷ 32 ∷ 49 ∷ 32 ∷ 48 ∷ 32 ∷ 48 ∷ 32 ∷
+    48 ∷ 32 ∷ 48 ∷ 32 ∷ 63 ∷ 32 ∷ 63 ∷ 10 ∷ 82 ∷ 32 ∷ 48 ∷ 32 ∷ 48 ∷ 10 ∷ 75 ∷ 32 ∷ 48 ∷ 32 ∷ 49 ∷ 32 ∷ 49 ∷ 32 ∷ 45 ∷ 56 ∷ 32 ∷ 48 ∷ 32 ∷ 48 ∷
+    32 ∷ 48 ∷ 32 ∷ 48 ∷ 32 ∷ 49 ∷ 32 ∷ 48 ∷ 32 ∷ 49 ∷ 10 ∷ 102 ∷ 32 ∷ 48 ∷ 48 ∷ 48 ∷ 48 ∷ 48 ∷ 32 ∷ 48 ∷ 48 ∷ 48 ∷ 51 ∷ 54 ∷ 32 ∷ 48 ∷ 48 ∷ 48 ∷
+    52 ∷ 50 ∷ 32 ∷ 48 ∷ 48 ∷ 48 ∷ 52 ∷ 50 ∷ 32 ∷ 48 ∷ 48 ∷ 48 ∷ 54 ∷ 55 ∷ 10 ∷ []
+
+pub branch-accepted : textOf branch-listing ≡ Reading.Good (record { edition = Second; start = Flat; rows = rowCounts 2 1 0 1 0 })
+unfolding textBy editionOf bytesOf partBy bodyBy trailerOf risingOf knownOf sectionBy fieldsBy allSome pieces upto past has digits number counted allowed amountBy
+branch-accepted = refl
+
+pub branch-before : checkedText First branch-listing ≡ Reading.Trailer 61
+unfolding textBy trailerOf risingOf digits number
+branch-before = refl

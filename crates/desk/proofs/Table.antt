@@ -12,9 +12,9 @@ use Rattle.linsolve.proofs.Examples.{pair-solved, pair-gives, zero-singular}
 use Rattle.islands.proofs.Examples.{labels-of-five}
 use Rattle.layout.proofs.Examples.{angle-columns-of-svqq, magnitude-columns-of-svqq}
 use Rattle.fields.proofs.Examples.{minus-zero, minus-quarter, point-last}
-use Rattle.case_text.proofs.Examples.{point-text, point-refused}
+use Rattle.case_text.proofs.Examples.{point-text, point-edition, point-refused}
 use Rattle.lines.specs.Lines.{decimalBy, printedValues, refusedLine}
-use Rattle.answer.specs.TextAnswer.{blank, afterReading, textAnswerBy}
+use Rattle.answer.specs.TextAnswer.{blank, afterFirst, textAnswerBy}
 use Rattle.report.specs.Report.{Report, blanks, reported, reportBy, reportOf}
 use Rattle.report.proofs.Examples.{listing-reported}
 use Rattle.desk.specs.Examples.{Value, bytes, numbers, reals, field, solve, Hold, table}
@@ -25,7 +25,7 @@ real x = reals (x ∷ [])
 
 point-printed : (w : List Float) → reportOf point-text w .bytes ≡ 114 ∷ 101 ∷ 102 ∷ 117 ∷ 115 ∷ 101 ∷ 100 ∷ 32 ∷ 53 ∷ 32 ∷ 52 ∷ 10 ∷ []
 unfolding reportBy textAnswerBy refusedLine printedValues decimalBy
-point-printed w = ap (λ r. reported (afterReading r blanks w) .bytes) (point-refused blank)
+point-printed w = rw point-edition (ap (λ r. reported (afterFirst r blanks w) .bytes) (point-refused blank))
 
 pub examples-hold : (w : List Float) → leb 6144 (length w) ≡ true → Hold (table w)
 examples-hold w h = (

@@ -8,7 +8,7 @@ use Rattle.network.specs.declared.Rows.{Rows}
 use Rattle.network.specs.Network.{busesOf, slacksOf, generatorsOf, branchesOf, rowCounts}
 use Rattle.network.specs.BranchTable.{BranchNetwork, valuesOf, branchTableOf, branchNetworkOf, branchRoomOf}
 use Rattle.trailer.specs.declared.Edition.the-variants.{Second}
-use Rattle.case_text.specs.Answer.Laws.{PlacedBranches, branches-placed, branch-ends, fitting, branches-read-good, branches-read-refused}
+use Rattle.case_text.specs.Answer.Laws.{PlacedSecond, branches-placed, ends, fitting, branches-read-good, branches-read-refused}
 use Rattle.case_text.proofs.Refusals.{untouched}
 use Rattle.case_text.proofs.read_branches.Statement.{statement}
 use Rattle.case_text.proofs.read_branches.Tie as tie
@@ -59,11 +59,11 @@ room-is c =
     let k = c .before .least6 .ensures .0 ∙ (λ i. min (c .before .before .before .least4 .ensures .0 i) (v i)) in
     λ i. rowCounts (rooms-of c .least82 .ensures i) (c .before .before .before .before .before .before .least .ensures .0 i) (g i) (k i) 0
 
-found : (c : tie.After-section-places) → let x = start-of (judged-of (c .before)) in PlacedBranches (x .args .text .now) (old x) (c .section-places .result)
+found : (c : tie.After-section-places) → let x = start-of (judged-of (c .before)) in PlacedSecond (x .args .text .now) (old x) (c .section-places .result)
 found c =
     let t = c .before in
     let j = judged-of t in
-    branches-placed (start-of j .args .text .now) (old (start-of j)) (room j) (t .enum-told .given .0 .0) (c .section-places .result) (room-is j) (sym (j .judge .ensures) ∙ t .enum-told .given .1) (c .section-places .ensures)
+    branches-placed (start-of j .args .text .now) (room j) (t .enum-told .given .0 .0) (c .section-places .result) (old (start-of j)) (room-is j) (sym (j .judge .ensures) ∙ t .enum-told .given .1) (c .section-places .ensures)
 
 -- ---- the needs
 
@@ -79,13 +79,13 @@ section-places-requires c κs =
     fitting Second (start-of j .args .text .now) (room j) _ (sym (j .judge .ensures) ∙ c .enum-told .given .1) .accepted .least
 
 fill-buses-requires : tie.Need-fill-buses-requires
-fill-buses-requires c κs = let w = found (places-of c) in (w .br, branch-ends w .0, w .buses)
+fill-buses-requires c κs = let w = found (places-of c) .shared in (w .br, ends w .0, w .bus-rows)
 
 fill-sources-requires : tie.Need-fill-sources-requires
-fill-sources-requires c κs = let w = found (places-of (buses-of c .before)) in (w .rg, w .gk, branch-ends w .1, w .slacks, w .generators)
+fill-sources-requires c κs = let w = found (places-of (buses-of c .before)) .shared in (w .rg, w .gl, ends w .1, w .slack-rows, w .generator-rows)
 
 fill-branch-table-requires : tie.Need-fill-branch-table-requires
-fill-branch-table-requires c κs = let w = found (places-of (buses-of (sources-of c .before) .before)) in (w .kt, w .end, w .table)
+fill-branch-table-requires c κs = let w = found (places-of (buses-of (sources-of c .before) .before)) in (w .shared .ly, ends (w .shared) .2, w .table)
 
 returns-2 : tie.Need-returns-2
 returns-2 c =

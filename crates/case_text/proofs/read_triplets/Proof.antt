@@ -7,7 +7,7 @@ use borrow.Author.Needs.{needs}
 use Rattle.network.specs.declared.Rows.{Rows}
 use Rattle.network.specs.Network.{Network, busesOf, slacksOf, generatorsOf, branchesOf, tripletsOf, networkOf, rowCounts, roomOf}
 use Rattle.trailer.specs.declared.Edition.the-variants.{First}
-use Rattle.case_text.specs.Answer.Laws.{Placed, placed, ends, fitting, read-good, read-refused}
+use Rattle.case_text.specs.Answer.Laws.{PlacedFirst, placed, ends, fitting, read-good, read-refused}
 use Rattle.case_text.proofs.Refusals.{untouched}
 use Rattle.case_text.proofs.read_triplets.Statement.{statement}
 use Rattle.case_text.proofs.read_triplets.Tie as tie
@@ -77,11 +77,11 @@ room-is c =
     λ i. rowCounts (c .before .before .before .before .before .before .least8 .ensures i) (c .before .before .before .before .before .least .ensures .0 i)
     (g i) (c .before .before .least4 .ensures .0 i) (c .before .least42 .ensures i)
 
-found : (c : tie.After-section-places) → let x = start-of (judged-of (c .before)) in Placed (x .args .text .now) (old x) (c .section-places .result)
+found : (c : tie.After-section-places) → let x = start-of (judged-of (c .before)) in PlacedFirst (x .args .text .now) (old x) (c .section-places .result)
 found c =
     let t = c .before in
     let j = judged-of t in
-    placed (start-of j .args .text .now) (old (start-of j)) (room j) (t .enum-told .given .0 .0) (c .section-places .result) (room-is j) (sym (j .judge .ensures) ∙ t .enum-told .given .1) (c .section-places .ensures)
+    placed (start-of j .args .text .now) (room j) (t .enum-told .given .0 .0) (c .section-places .result) (old (start-of j)) (room-is j) (sym (j .judge .ensures) ∙ t .enum-told .given .1) (c .section-places .ensures)
 
 -- ---- the needs
 
@@ -97,13 +97,13 @@ section-places-requires c κs =
     fitting First (start-of j .args .text .now) (room j) _ (sym (j .judge .ensures) ∙ c .enum-told .given .1) .accepted .least
 
 fill-buses-requires : tie.Need-fill-buses-requires
-fill-buses-requires c κs = let w = found (places-of c) in (w .br, ends w .0, w .buses)
+fill-buses-requires c κs = let w = found (places-of c) .shared in (w .br, ends w .0, w .bus-rows)
 
 fill-sources-requires : tie.Need-fill-sources-requires
-fill-sources-requires c κs = let w = found (places-of (buses-of c .before)) in (w .rg, w .gl, ends w .1, w .slacks, w .generators)
+fill-sources-requires c κs = let w = found (places-of (buses-of c .before)) .shared in (w .rg, w .gl, ends w .1, w .slack-rows, w .generator-rows)
 
 fill-lines-requires : tie.Need-fill-lines-requires
-fill-lines-requires c κs = let w = found (places-of (buses-of (sources-of c .before) .before)) in (w .ly, w .yt, w .end, w .branches, w .triplets)
+fill-lines-requires c κs = let w = found (places-of (buses-of (sources-of c .before) .before)) in (w .shared .ly, w .shared .yt, w .shared .end, w .branches, w .triplets)
 
 returns-2 : tie.Need-returns-2
 returns-2 c =

@@ -4,13 +4,14 @@ use mathlib.Core.Bool.{true, cond}
 use mathlib.Core.Logic.{⊎-elim}
 use mathlib.Core.List.{List}
 use Prim.Native.Nat.{ℕ, _≤_}
+use native.Mathlib.Nat.{le-refl}
 use native.Mathlib.Omega.{arith}
 use lib.ListN.{length}
 use lib.Seq.{slice, length-sets}
 use Rattle.real.specs.Tests.{decided, no-case}
 use Rattle.real.specs.Paper.{Paper, given, refused, onGiven}
 use Rattle.network.specs.declared.Rows.{Rows}
-use Rattle.network.specs.Network.{Network, RoomBuses, RoomSlacks, RoomGenerators, RoomBranches, RoomTriplets, AtMost, roomOf, fitsOf}
+use Rattle.network.specs.Network.{Buses, Slacks, Generators, Network, busesRoom, slacksRoom, generatorsRoom, RoomBuses, RoomSlacks, RoomGenerators, RoomBranches, RoomTriplets, AtMost, roomOf, fitsOf}
 use Rattle.network.specs.Network.Laws.{fits-at-most, room-buses, room-slacks, room-generators, room-branches, room-triplets}
 use Rattle.network.specs.Checks.{sizes}
 use Rattle.network.specs.BranchTable.{BranchNetwork, branchRoomOf, RoomBranchTable}
@@ -22,8 +23,8 @@ use Rattle.rows.specs.declared.Section.{Section}
 use Rattle.rows.specs.declared.Section.the-variants as Section
 use Rattle.rows.specs.declared.Check.the-variants as Check
 use Rattle.columns.specs.Columns.{rowCount}
-use Rattle.trailer.specs.Trailer.{trailerStart, editionOf, behindG, lastOf, sectionStart, sectionEnd, bytesOf, placesOf}
-use Rattle.trailer.specs.Trailer.Laws.{Within, within, starts-B, starts-R, starts-G, starts-behind-G, starts-last}
+use Rattle.trailer.specs.Trailer.{trailerStart, editionOf, trailerOf, behindG, lastOf, sectionStart, sectionEnd, bytesOf, placesOf}
+use Rattle.trailer.specs.Trailer.Laws.{within, starts-B, starts-R, starts-G, starts-behind-G, starts-last, G-meets}
 use Rattle.trailer.specs.declared.Edition.{Edition}
 use Rattle.trailer.specs.declared.Edition.the-variants.{First, Second}
 use Rattle.case_text.specs.Text.{partBy, partOf, tripletPartOf, checkedText}
@@ -88,86 +89,83 @@ rows-most e s t c a =
       triplets = triplets-most e s t _ (b .triplets);
     }
 
--- the sections lie one behind the other in the text, and each table has a place for each of its rows
-pub record Placed (s : List ℕ) (old : Network) (p : Places) : Type 0 where
+-- the sections lie one behind the other in the text, and the tables that both editions have a place for each of their rows
+pub record Placed (s : List ℕ) (buses : Buses) (slacks : Slacks) (generators : Generators) (p : Places) : Type 0 where
   pub br : p .b ≤ p .r
   pub rg : p .r ≤ p .g
   pub gl : p .g ≤ p .lines
   pub ly : p .lines ≤ p .triplets
   pub yt : p .triplets ≤ p .t
   pub end : p .t ≤ length s
-  pub buses : RoomBuses (rowCount (slice (p .b) (p .r) s)) (old .buses)
-  pub slacks : RoomSlacks (rowCount (slice (p .r) (p .g) s)) (old .slacks)
-  pub generators : RoomGenerators (rowCount (slice (p .g) (p .lines) s)) (old .generators)
+  pub bus-rows : RoomBuses (rowCount (slice (p .b) (p .r) s)) buses
+  pub slack-rows : RoomSlacks (rowCount (slice (p .r) (p .g) s)) slacks
+  pub generator-rows : RoomGenerators (rowCount (slice (p .g) (p .lines) s)) generators
+
+-- so have those of one edition alone
+pub record PlacedFirst (s : List ℕ) (old : Network) (p : Places) : Type 0 where
+  pub shared : Placed s (old .buses) (old .slacks) (old .generators) p
   pub branches : RoomBranches (rowCount (slice (p .lines) (p .triplets) s)) (old .branches)
   pub triplets : RoomTriplets (rowCount (slice (p .triplets) (p .t) s)) (old .triplets)
 
--- the same of a second-edition text, in which the trailer follows the branches
-pub record PlacedBranches (s : List ℕ) (old : BranchNetwork) (p : Places) : Type 0 where
-  pub br : p .b ≤ p .r
-  pub rg : p .r ≤ p .g
-  pub gk : p .g ≤ p .lines
-  pub kt : p .lines ≤ p .triplets
-  pub end : p .triplets ≤ length s
-  pub buses : RoomBuses (rowCount (slice (p .b) (p .r) s)) (old .buses)
-  pub slacks : RoomSlacks (rowCount (slice (p .r) (p .g) s)) (old .slacks)
-  pub generators : RoomGenerators (rowCount (slice (p .g) (p .lines) s)) (old .generators)
+pub record PlacedSecond (s : List ℕ) (old : BranchNetwork) (p : Places) : Type 0 where
+  pub shared : Placed s (old .buses) (old .slacks) (old .generators) p
   pub table : RoomBranchTable (rowCount (slice (p .lines) (p .triplets) s)) (old .table)
 
-module _ (s : List ℕ) where
-  placed-at : (old : Network) (c : Contents) → Fitting First s (roomOf old) c → Placed s old (placesOf First s (trailerStart First s))
-  unfolding bytesOf
-  placed-at old c f =
+-- the section behind G is the last one, or it ends where the last one starts
+lines-end : (e : Edition) (s : List ℕ) (t : ℕ) → trailerOf e s t ≡ true → sectionEnd (behindG e) s t ≤ sectionEnd (lastOf e) s t
+lines-end First s t h = within First s t h Section.Y (starts-last First) .ordered
+lines-end Second s t h = le-refl (sectionEnd Section.K s t)
+
+-- a part's rows are counted, so room for what is counted is room for them
+room-rows : (z : Section) (s : List ℕ) (t n k : ℕ) → partOf z s t ≡ Check.Good n → n ≤ k → rowCount (slice (sectionStart z s t) (sectionEnd z s t) s) ≤ k
+unfolding bytesOf
+room-rows z s t n k h m = rw (← part-rows z s t n h) m
+
+module _ (e : Edition) (s : List ℕ) (m : Rows) (c : Contents) (f : Fitting e s m c) where
+  shared-at : (b : Buses) (r : Slacks) (g : Generators) → m .buses ≡ busesRoom b → m .slacks ≡ slacksRoom r → m .generators ≡ generatorsRoom g
+      → Placed s b r g (placesOf e s (trailerStart e s))
+  shared-at b r g eb er eg =
+      let t = trailerStart e s in
+      let a = f .accepted in
+      let w = within e s t (a .trailer) in
+      let fit = fits-at-most (c .rows) m (f .fits) in
+      record {
+        br = w Section.B (starts-B e) .ordered;
+        rg = w Section.R (starts-R e) .ordered;
+        gl = rw (← G-meets e s t) (w Section.G (starts-G e) .ordered);
+        ly = w (behindG e) (starts-behind-G e) .ordered;
+        yt = lines-end e s t (a .trailer);
+        end = omega (arith, w (lastOf e) (starts-last e) .inside, a .least);
+        bus-rows = room-buses _ b (room-rows Section.B s t _ _ (a .body .buses) (rw (← eb) (fit .buses)));
+        slack-rows = room-slacks _ r (room-rows Section.R s t _ _ (a .body .slacks) (rw (← er) (fit .slacks)));
+        generator-rows = room-generators _ g (rw (← G-meets e s t) (room-rows Section.G s t _ _ (a .body .generators) (rw (← eg) (fit .generators))));
+      }
+
+module _ (s : List ℕ) (m : Rows) (c : Contents) (p : Places) where
+  pub placed : (old : Network) → m ≡ roomOf old → judgedOf First s m ≡ Reading.Good c → p ≡ placesOf First s (trailerStart First s) → PlacedFirst s old p
+  placed old r h q =
       let t = trailerStart First s in
-      let a = f .accepted in
-      let w = within First s t (a .trailer) in
-      let m = fits-at-most (c .rows) (roomOf old) (f .fits) in
-      record {
-        br = w Section.B (starts-B First) .ordered;
-        rg = w Section.R (starts-R First) .ordered;
-        gl = w Section.G (starts-G First) .ordered;
-        ly = w Section.L (starts-behind-G First) .ordered;
-        yt = w Section.Y (starts-last First) .ordered;
-        end = omega (arith, w Section.Y (starts-last First) .inside, a .least);
-        buses = room-buses _ _ (rw (← part-rows Section.B s t (c .rows .buses) (a .body .buses)) (m .buses));
-        slacks = room-slacks _ _ (rw (← part-rows Section.R s t (c .rows .slacks) (a .body .slacks)) (m .slacks));
-        generators = room-generators _ _ (rw (← part-rows Section.G s t (c .rows .generators) (a .body .generators)) (m .generators));
-        branches = room-branches _ _ (rw (← part-rows Section.L s t (c .rows .branches) (a .body .branches)) (m .branches));
-        triplets = room-triplets _ _ (rw (← part-rows Section.Y s t (c .rows .triplets) (a .body .triplets)) (m .triplets));
-      }
+      let f = fitting First s m c h in
+      let fit = rw r at (fits-at-most (c .rows) m (f .fits)) in
+      rw q (record {
+        shared = shared-at First s m c f (old .buses) (old .slacks) (old .generators) (λ i. r i .buses) (λ i. r i .slacks) (λ i. r i .generators);
+        branches = room-branches _ (old .branches) (room-rows Section.L s t _ _ (f .accepted .body .branches) (fit .branches));
+        triplets = room-triplets _ (old .triplets) (room-rows Section.Y s t _ _ (f .accepted .body .triplets) (fit .triplets));
+      })
 
-  branches-placed-at : (old : BranchNetwork) (c : Contents) → Fitting Second s (branchRoomOf old) c → PlacedBranches s old (placesOf Second s (trailerStart Second s))
-  unfolding bytesOf
-  branches-placed-at old c f =
+  pub branches-placed : (old : BranchNetwork) → m ≡ branchRoomOf old → judgedOf Second s m ≡ Reading.Good c → p ≡ placesOf Second s (trailerStart Second s)
+      → PlacedSecond s old p
+  branches-placed old r h q =
       let t = trailerStart Second s in
-      let a = f .accepted in
-      let w = within Second s t (a .trailer) in
-      let m = fits-at-most (c .rows) (branchRoomOf old) (f .fits) in
-      record {
-        br = w Section.B (starts-B Second) .ordered;
-        rg = w Section.R (starts-R Second) .ordered;
-        gk = w Section.G (starts-G Second) .ordered;
-        kt = w Section.K (starts-behind-G Second) .ordered;
-        end = omega (arith, w Section.K (starts-behind-G Second) .inside, a .least);
-        buses = room-buses _ _ (rw (← part-rows Section.B s t (c .rows .buses) (a .body .buses)) (m .buses));
-        slacks = room-slacks _ _ (rw (← part-rows Section.R s t (c .rows .slacks) (a .body .slacks)) (m .slacks));
-        generators = room-generators _ _ (rw (← part-rows Section.G s t (c .rows .generators) (a .body .generators)) (m .generators));
-        table = room-branch-table _ _ (rw (← part-rows Section.K s t (c .rows .branches) (a .body .branches)) (m .branches));
-      }
+      let f = fitting Second s m c h in
+      let fit = rw r at (fits-at-most (c .rows) m (f .fits)) in
+      rw q (record {
+        shared = shared-at Second s m c f (old .buses) (old .slacks) (old .generators) (λ i. r i .buses) (λ i. r i .slacks) (λ i. r i .generators);
+        table = room-branch-table _ (old .table) (room-rows Section.K s t _ _ (f .accepted .body .branches) (fit .branches));
+      })
 
-  pub placed : (old : Network) (m : Rows) (c : Contents) (p : Places) → m ≡ roomOf old → judgedOf First s m ≡ Reading.Good c
-      → p ≡ placesOf First s (trailerStart First s) → Placed s old p
-  placed old m c p r h e = rw e (placed-at old c (fitting First s (roomOf old) c (rw r at h)))
-
-  pub branches-placed : (old : BranchNetwork) (m : Rows) (c : Contents) (p : Places) → m ≡ branchRoomOf old → judgedOf Second s m ≡ Reading.Good c
-      → p ≡ placesOf Second s (trailerStart Second s) → PlacedBranches s old p
-  branches-placed old m c p r h e = rw e (branches-placed-at old c (fitting Second s (branchRoomOf old) c (rw r at h)))
-
-pub ends : {s : List ℕ} {old : Network} {p : Places} → Placed s old p → (p .r ≤ length s) × (p .lines ≤ length s)
-ends w = (omega (arith, w .rg, w .gl, w .ly, w .yt, w .end), omega (arith, w .ly, w .yt, w .end))
-
-pub branch-ends : {s : List ℕ} {old : BranchNetwork} {p : Places} → PlacedBranches s old p → (p .r ≤ length s) × (p .lines ≤ length s)
-branch-ends w = (omega (arith, w .rg, w .gk, w .kt, w .end), omega (arith, w .kt, w .end))
+pub ends : {s : List ℕ} {b : Buses} {r : Slacks} {g : Generators} {p : Places} → Placed s b r g p → (p .r ≤ length s) × (p .lines ≤ length s) × (p .triplets ≤ length s)
+ends w = (omega (arith, w .rg, w .gl, w .ly, w .yt, w .end), omega (arith, w .ly, w .yt, w .end), omega (arith, w .yt, w .end))
 
 -- ---- the tables
 
@@ -198,32 +196,38 @@ branch-filled-room s t old = simp length-sets
 
 -- ---- the answer
 
+module _ {T : Type 0} (e : Edition) (s : List ℕ) (m n : Rows) (v : Reading) (r : m ≡ n) (h : v ≡ judgedOf e s m) (old : T) where
+  judged : judgedOf e s n ≡ v
+  judged = ap (judgedOf e s) (sym r) ∙ sym h
+
+  result-good : (c : Contents) (new filled : T) → v ≡ Reading.Good c → new ≡ filled → readResult (paperOf v) new ≡ resultOf (judgedOf e s n) filled old
+  result-good c new filled g w = rw (judged, g, w)
+
+  result-refused : (filled : T) → resultOf v filled old ≡ readResult (paperOf v) old → readResult (paperOf v) old ≡ resultOf (judgedOf e s n) filled old
+  result-refused filled k = rw judged (sym k)
+
 module _ (s : List ℕ) (m : Rows) (v : Reading) where
   module _ (old : Network) (r : m ≡ roomOf old) (h : v ≡ judgedOf First s m) where
-    judged : judgedOf First s (roomOf old) ≡ v
-    judged = ap (judgedOf First s) (sym r) ∙ sym h
-
     pub read-good : (c : Contents) (p : Places) (new : Network) → v ≡ Reading.Good c → p ≡ placesOf First s (trailerStart First s) → new ≡ filledBy s p old
         → readResult (paperOf v) new ≡ readFirst s old
     unfolding readFirstBy
-    read-good c p new g q w = rw (judged, g, w, q, filled-at s (trailerStart First s) old)
+    read-good c p new g q w =
+        result-good First s m (roomOf old) v r h old c new _ g (w ∙ ap (λ (x : Places). filledBy s x old) q ∙ sym (filled-at s (trailerStart First s) old))
 
     pub read-refused : ((n : Network) → resultOf v n old ≡ readResult (paperOf v) old) → readResult (paperOf v) old ≡ readFirst s old
     unfolding readFirstBy
-    read-refused k = rw judged (sym (k _))
+    read-refused k = result-refused First s m (roomOf old) v r h old _ (k _)
 
   module _ (old : BranchNetwork) (r : m ≡ branchRoomOf old) (h : v ≡ judgedOf Second s m) where
-    branches-judged : judgedOf Second s (branchRoomOf old) ≡ v
-    branches-judged = ap (judgedOf Second s) (sym r) ∙ sym h
-
     pub branches-read-good : (c : Contents) (p : Places) (new : BranchNetwork) → v ≡ Reading.Good c → p ≡ placesOf Second s (trailerStart Second s)
         → new ≡ branchFilledBy s p old → readResult (paperOf v) new ≡ readSecond s old
     unfolding readSecondBy
-    branches-read-good c p new g q w = rw (branches-judged, g, w, q, branch-filled-at s (trailerStart Second s) old)
+    branches-read-good c p new g q w =
+        result-good Second s m (branchRoomOf old) v r h old c new _ g (w ∙ ap (λ (x : Places). branchFilledBy s x old) q ∙ sym (branch-filled-at s (trailerStart Second s) old))
 
     pub branches-read-refused : ((n : BranchNetwork) → resultOf v n old ≡ readResult (paperOf v) old) → readResult (paperOf v) old ≡ readSecond s old
     unfolding readSecondBy
-    branches-read-refused k = rw branches-judged (sym (k _))
+    branches-read-refused k = result-refused Second s m (branchRoomOf old) v r h old _ (k _)
 
 -- ---- the reader of both editions
 
