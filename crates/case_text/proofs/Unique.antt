@@ -1,4 +1,4 @@
--- What read_case's contract settles: two outcomes that meet it are equal, columns included; it accepts exactly what the definition accepts, and
+-- What a reader's contract settles: two outcomes that meet it are equal, columns included; it accepts exactly what the definition accepts, and
 -- then writes the definition's values; otherwise the columns are as they were. Assumes nothing.
 use mathlib.Core.Path.{_≡_, refl, sym, ap, _∙_}
 use mathlib.Core.Bool.{true, cond}
@@ -11,7 +11,7 @@ use Rattle.network.specs.declared.Rows.{Rows}
 use Rattle.network.specs.Network.{fitsOf}
 use Rattle.trailer.specs.declared.Edition.{Edition}
 use Rattle.case_text.specs.Text.{checkedText}
-use Rattle.case_text.specs.Answer.{paperOf, judgedOf, ReadResult, readResult, resultOf, Columns, readOf}
+use Rattle.case_text.specs.Answer.{paperOf, judgedOf, ReadResult, readResult, resultOf}
 use Rattle.case_text.specs.Answer.Laws.{with-room}
 use Rattle.case_text.specs.declared.Contents.{Contents}
 use Rattle.case_text.specs.declared.Reading.{Reading}
@@ -53,13 +53,9 @@ left (readResult p c) = c
 
 -- ---- two outcomes that meet a reader's contract are equal, lent memory included
 
-one-result : {T : Type 0} (x : ReadResult T) (r₁ r₂ : Reading) (new₁ new₂ : T) → readResult (paperOf r₁) new₁ ≡ x → readResult (paperOf r₂) new₂ ≡ x
+pub one-result : {T : Type 0} (x : ReadResult T) (r₁ r₂ : Reading) (new₁ new₂ : T) → readResult (paperOf r₁) new₁ ≡ x → readResult (paperOf r₂) new₂ ≡ x
     → (r₁ ≡ r₂) × (new₁ ≡ new₂)
 one-result x r₁ r₂ new₁ new₂ h k = let e = h ∙ sym k in (paper-tells r₁ r₂ (ap answer e), ap left e)
-
-pub same-outcome : (s : List ℕ) (old : Columns) (r₁ r₂ : Reading) (new₁ new₂ : Columns) → readResult (paperOf r₁) new₁ ≡ readOf s old
-    → readResult (paperOf r₂) new₂ ≡ readOf s old → (r₁ ≡ r₂) × (new₁ ≡ new₂)
-same-outcome s old = one-result (readOf s old)
 
 -- ---- what a reading by an edition's rules accepts, and what it leaves
 

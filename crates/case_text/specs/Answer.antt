@@ -1,4 +1,4 @@
--- The reader's answer: 01's number and values for each case, refusal 9, and the tables afterwards, of either edition and of both.
+-- The answer of a reading by an edition's rules: 01's number and values for each case, refusal 9, and the tables afterwards.
 pub mod Laws
 use Prim.Native.Nat.{ℕ}
 use mathlib.Core.Bool.{cond}
@@ -7,11 +7,11 @@ use Rattle.real.specs.declared.Value.the-variants.{Whole}
 use Rattle.real.specs.Paper.{Paper, given, refused, onGiven}
 use Rattle.network.specs.declared.Rows.{Rows}
 use Rattle.network.specs.Network.{Network, networkOf, roomOf, fitsOf}
-use Rattle.network.specs.BranchTable.{BranchTable, BranchNetwork, branchNetworkOf, branchRoomOf}
+use Rattle.network.specs.BranchTable.{BranchNetwork, branchNetworkOf, branchRoomOf}
 use Rattle.fields.specs.Real.{DigitRule, allowed}
 use Rattle.rows.specs.declared.Section.the-variants as Section
 use Rattle.columns.specs.Columns.{busesBy, slacksBy, generatorsBy, filledBranches, tripletsBy, branchTableBy}
-use Rattle.trailer.specs.Trailer.{trailerStart, editionOf, bytesOf}
+use Rattle.trailer.specs.Trailer.{trailerStart, bytesOf}
 use Rattle.trailer.specs.declared.Edition.{Edition}
 use Rattle.trailer.specs.declared.Edition.the-variants.{First, Second}
 use Rattle.case_text.specs.Text.{textBy, checkedText}
@@ -87,32 +87,3 @@ readFirst = readFirstBy allowed
 
 abbrev pub readSecond : List ℕ → BranchNetwork → ReadResult BranchNetwork
 readSecond = readSecondBy allowed
-
--- ---- the reader of both
-
--- the columns of both editions, of which they share the buses, the slack rows and the generators
-pub record Columns : Type 0 where
-  pub network : Network
-  pub table : BranchTable
-
-abbrev pub columnsOf : Network → BranchTable → Columns
-columnsOf network table = record { network = network; table = table }
-
-abbrev pub branchesIn : Columns → BranchNetwork
-branchesIn o = branchNetworkOf (o .network .buses) (o .network .slacks) (o .network .generators) (o .table)
-
--- a reading of one edition leaves the other's own columns untouched
-abbrev pub withFirst : Columns → ReadResult Network → ReadResult Columns
-withFirst old (readResult p n) = readResult p (columnsOf n (old .table))
-
-abbrev pub withSecond : Columns → ReadResult BranchNetwork → ReadResult Columns
-withSecond old (readResult p n) =
-    readResult p (columnsOf (networkOf (n .buses) (n .slacks) (n .generators) (old .network .branches) (old .network .triplets)) (n .table))
-
--- a text is read by the rules of its own edition
-abbrev pub readAs : Edition → List ℕ → Columns → ReadResult Columns
-readAs First s old = withFirst old (readFirst s (old .network))
-readAs Second s old = withSecond old (readSecond s (branchesIn old))
-
-unfoldable pub readOf : List ℕ → Columns → ReadResult Columns
-readOf s old = readAs (editionOf s) s old

@@ -17,13 +17,14 @@ use Rattle.network.specs.BranchTable.{BranchTable, branchTableOf}
 use Rattle.trailer.specs.Trailer.{flatLetter, flagged, modeOf}
 use Rattle.trailer.specs.declared.Edition.{Edition}
 use Rattle.trailer.specs.declared.Edition.the-variants.{First, Second}
-use Rattle.case_text.specs.Answer.{paperOf, ReadResult, readResult, Columns, columnsOf, readOf}
+use Rattle.case_text.specs.Answer.{paperOf, ReadResult, readResult}
+use Rattle.reader.specs.Reader.{Columns, columnsOf, readOf}
 use Rattle.case_text.specs.declared.Contents.{Contents}
 use Rattle.case_text.specs.declared.Reading.{Reading}
 use Rattle.starts.specs.declared.AcStart.{AcStart}
 use Rattle.starts.specs.declared.AcStart.the-variants.{Flat, Case}
 use Rattle.case_text.proofs.Refusals.{Refused, refused-paper}
-use Rattle.text_vectors.specs.Told.{numberIn, placeOf, refusal, answer, rowsTold, editionBy, contentsBy, paperTold, widthTold, networkMarks, outcomeTold, tableIn, withTable, TellsRest}
+use Rattle.text_vectors.specs.Told.{numberIn, placeOf, refusal, answer, rowsTold, editionBy, contentsBy, paperTold, widthTold, networkMarks, outcomeTold, tableIn, withTable, RestAgrees}
 use Rattle.text_vectors.specs.Told.{busesTold, slacksTold, generatorsTold, branchesTold, tripletsTold, valuesTold, branchTableTold}
 
 -- ---- the edition
@@ -117,27 +118,28 @@ parts : {p q : Paper Contents} {t u : Columns} → readResult p t ≡ readResult
 parts e = (cc, cc)
 
 -- all but the table of branches
-pub rest-told : {p : Paper Contents} {t : Network} {old new : BranchTable} {m : ℕ} (text s : List ℕ) {a b r g l y : Bool} → m ≡ widthTold s
+pub rest-told : {p : Paper Contents} {t : Network} {new : BranchTable} {m : ℕ} (text s : List ℕ) (old : BranchTable) {a b r g l y : Bool} → m ≡ widthTold s
     → readResult p (columnsOf t new) ≡ readOf text (columnsOf (networkMarks m) old) → Tells a (p ≡ paperTold s)
     → Tells b (t .buses ≡ busesTold s) → Tells r (t .slacks ≡ slacksTold s) → Tells g (t .generators ≡ generatorsTold s)
     → Tells l (t .branches ≡ branchesTold s 13) → Tells y (t .triplets ≡ tripletsTold s)
-    → TellsRest text s old new (((((a && b) && r) && g) && l) && y)
-rest-told text s e read a b r g l y =
-    let is = rw e at read in
-    record {
-      table = sym (ap tableIn is);
-      rest =
-          same-told (ap (withTable (branchTableTold s)) is)
+    → let o = readOf text (columnsOf (networkMarks (widthTold s)) old) in
+    Tells (((((a && b) && r) && g) && l) && y) (RestAgrees s o) × (tableIn o ≡ new)
+unfolding RestAgrees
+rest-told text s old e read a b r g l y =
+    let is = rw e at read in (
+      same-told (ap (withTable (branchTableTold s)) is)
           (last-told (a and b and r and g and l and y)
           (λ e. let f = parts e in
           (((((f .0, λ i. f .1 i .network .buses), λ i. f .1 i .network .slacks), λ i. f .1 i .network .generators), λ i. f .1 i .network .branches), λ i. f .1 i .network .triplets))
-          (λ (((((a, b), r), g), l), y). λ i. readResult (a i) (columnsOf (networkOf (b i) (r i) (g i) (l i) (y i)) (branchTableTold s))));
-    }
+          (λ (((((a, b), r), g), l), y). λ i. readResult (a i) (columnsOf (networkOf (b i) (r i) (g i) (l i) (y i)) (branchTableTold s)))),
+      sym (ap tableIn is),
+    )
 
 -- and with it the table
 pub outcome-told : (o : ReadResult Columns) (s : List ℕ) {t : BranchTable} {r e v : Bool} → tableIn o ≡ t
-    → Tells r (withTable (branchTableTold s) o ≡ outcomeTold s) → Tells e (t .ends ≡ branchesTold s 19) → Tells v (t .values ≡ valuesTold s)
+    → Tells r (RestAgrees s o) → Tells e (t .ends ≡ branchesTold s 19) → Tells v (t .values ≡ valuesTold s)
     → Tells ((r && e) && v) (o ≡ outcomeTold s)
+unfolding RestAgrees
 outcome-told (readResult p c) s is r e v =
     last-told (r and e and v)
     (λ q. let t = sym is ∙ ap tableIn q in ((ap (withTable (branchTableTold s)) q, λ i. t i .ends), λ i. t i .values))

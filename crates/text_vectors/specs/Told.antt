@@ -1,6 +1,6 @@
 -- What a record of the input says of a text's reading: the answer, and every place of every column (oracle/text_vectors.py has the format).
 use mathlib.Core.Path.{_≡_}
-use mathlib.Core.Bool.{Bool, cond}
+use mathlib.Core.Bool.{cond}
 use mathlib.Core.List.{List, [], _∷_}
 use Prim.Native.Nat.{ℕ, _+_, _*_, min}
 use lib.Dec.{eqb}
@@ -10,14 +10,15 @@ use Rattle.real.specs.declared.Value.the-variants.{Whole}
 use Rattle.real.specs.Paper.{Paper, given, refused, placeIn}
 use Rattle.real.specs.Each.{each}
 use Rattle.real.specs.Literals.{lit}
-use Rattle.vectors.specs.Words.{pairOf, wordOf, Tells}
+use Rattle.vectors.specs.Words.{pairOf, wordOf}
 use Rattle.trailer.specs.Trailer.{flagged, modeOf}
 use Rattle.trailer.specs.declared.Edition.{Edition}
 use Rattle.trailer.specs.declared.Edition.the-variants.{First, Second}
 use Rattle.network.specs.declared.Rows.{Rows}
 use Rattle.network.specs.Network.{Buses, Slacks, Generators, Branches, Triplets, Network, busesOf, slacksOf, generatorsOf, branchesOf, tripletsOf, networkOf, rowCounts}
 use Rattle.network.specs.BranchTable.{Values, BranchTable, valuesOf, branchTableOf}
-use Rattle.case_text.specs.Answer.{ReadResult, readResult, Columns, columnsOf, readOf}
+use Rattle.case_text.specs.Answer.{ReadResult, readResult}
+use Rattle.reader.specs.Reader.{Columns, columnsOf, readOf}
 use Rattle.case_text.specs.declared.Contents.{Contents}
 
 -- an answer's number, 0 of a good one, and its place, 0 where it has none
@@ -136,16 +137,14 @@ branchTableMarks m =
 abbrev pub Agrees : List ℕ → List ℕ → Type 0
 Agrees text s = readOf text (columnsOf (networkMarks (widthTold s)) (branchTableMarks (widthTold s))) ≡ outcomeTold s
 
--- ---- a reading into marks and a given table of branches
+-- ---- all but the table of branches
 
 abbrev pub tableIn : ReadResult Columns → BranchTable
 tableIn (readResult p c) = c .table
 
--- the same reading with another table of branches
 abbrev pub withTable : BranchTable → ReadResult Columns → ReadResult Columns
 withTable t (readResult p c) = readResult p (columnsOf (c .network) t)
 
--- it leaves this table, and r tells whether all else is as the record says
-pub record TellsRest (text s : List ℕ) (old new : BranchTable) (r : Bool) : Type 0 where
-  pub table : tableIn (readOf text (columnsOf (networkMarks (widthTold s)) old)) ≡ new
-  pub rest : Tells r (withTable (branchTableTold s) (readOf text (columnsOf (networkMarks (widthTold s)) old)) ≡ outcomeTold s)
+-- a reading is what the record says, once it has the table that the record says
+unfoldable pub RestAgrees : List ℕ → ReadResult Columns → Type 0
+RestAgrees s o = withTable (branchTableTold s) o ≡ outcomeTold s

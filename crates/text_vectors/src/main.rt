@@ -9,8 +9,9 @@ ghost use Rattle.network.specs.BranchTable.{valuesOf, branchTableOf, firstValue
 ghost use Rattle.trailer.specs.Trailer.{flatLetter, modeOf};
 ghost use Rattle.real.specs.Paper.{given};
 ghost use Rattle.case_text.specs.Answer.{paperOf};
+ghost use Rattle.reader.specs.Reader.{columnsOf, readOf};
 ghost use Rattle.text_vectors.specs.Told.{numberIn, placeOf, refusal, rowsIn, branchRows, tripletRows, rowsTold, editionBy, paperTold, widthTold, wordTold, numbersTold, realsTold};
-ghost use Rattle.text_vectors.specs.Told.{busesTold, slacksTold, generatorsTold, branchesTold, tripletsTold, valuesTold, Agrees, TellsRest};
+ghost use Rattle.text_vectors.specs.Told.{busesTold, slacksTold, generatorsTold, branchesTold, tripletsTold, valuesTold, networkMarks, Agrees, tableIn, RestAgrees};
 use libc::STDIN_FILENO;
 use starts::AcStart;
 use trailer::Edition;
@@ -41,11 +42,10 @@ fn told(s: &[u8; 600000], j: usize, i: usize) -> u64
 }
 
 // Whether a column's lent places hold what the input says; one function for each type of element.
-fn kinds(s: &[u8; 600000], j: usize, col: &[u8; 258]) -> bool
+fn kinds(s: &[u8; 600000], j: usize, col: [u8; 258]) -> bool
     requires { ⌜ j < 30 ⌝ }
-    ensures { λ r. ⌜ Tells r (take (widthTold (now (s .entry))) (now (col .entry)) ≡ numbersTold (now (s .entry)) j) ⌝ }
+    ensures { λ r. ⌜ Tells r (take (widthTold (now (s .entry))) col ≡ numbersTold (now (s .entry)) j) ⌝ }
 {
-    let col: &[u8] = col;
     let n = width(s);
     let mut i = 0;
     while i < n {
@@ -57,11 +57,10 @@ fn kinds(s: &[u8; 600000], j: usize, col: &[u8; 258]) -> bool
     true
 }
 
-fn numbers(s: &[u8; 600000], j: usize, col: &[usize; 258]) -> bool
+fn numbers(s: &[u8; 600000], j: usize, col: [usize; 258]) -> bool
     requires { ⌜ j < 30 ⌝ }
-    ensures { λ r. ⌜ Tells r (take (widthTold (now (s .entry))) (now (col .entry)) ≡ numbersTold (now (s .entry)) j) ⌝ }
+    ensures { λ r. ⌜ Tells r (take (widthTold (now (s .entry))) col ≡ numbersTold (now (s .entry)) j) ⌝ }
 {
-    let col: &[usize] = col;
     let n = width(s);
     let mut i = 0;
     while i < n {
@@ -73,11 +72,10 @@ fn numbers(s: &[u8; 600000], j: usize, col: &[usize; 258]) -> bool
     true
 }
 
-fn reals(s: &[u8; 600000], j: usize, col: &[f64; 258]) -> bool
+fn reals(s: &[u8; 600000], j: usize, col: [f64; 258]) -> bool
     requires { ⌜ j < 30 ⌝ }
-    ensures { λ r. ⌜ Tells r (take (widthTold (now (s .entry))) (now (col .entry)) ≡ realsTold (now (s .entry)) j) ⌝ }
+    ensures { λ r. ⌜ Tells r (take (widthTold (now (s .entry))) col ≡ realsTold (now (s .entry)) j) ⌝ }
 {
-    let col: &[f64] = col;
     let n = width(s);
     let mut i = 0;
     while i < n {
@@ -135,7 +133,7 @@ fn refused(s: &[u8; 600000], n: usize, at: usize) -> bool
     at == vectors::pair(s, 2)
 }
 
-// Whether a letter of the trailer is of this edition, whose are f and c if it is the second.
+// Whether a letter of the trailer is of this edition: the second has f and c.
 fn editions(e: Edition, letter: usize) -> bool
     ensures { λ r. ⌜ Tells r (e ≡ editionBy letter) ⌝ }
 {
@@ -213,23 +211,22 @@ fn answered(s: &[u8; 600000], v: case_text::Reading) -> bool
     good(s, c)
 }
 
-// ---- each table, column by column
+// ---- each table, column by column; these come by value, since each lent one costs the check of the caller a place more
 
 fn buses_agree(
     s: &[u8; 600000],
-    kind: &[u8; 258],
-    vm_set: &[f64; 258],
-    pd: &[f64; 258],
-    qd: &[f64; 258],
-    pg: &[f64; 258],
-    qg: &[f64; 258],
-    vm_case: &[f64; 258],
-    va_case: &[f64; 258],
+    kind: [u8; 258],
+    vm_set: [f64; 258],
+    pd: [f64; 258],
+    qd: [f64; 258],
+    pg: [f64; 258],
+    qg: [f64; 258],
+    vm_case: [f64; 258],
+    va_case: [f64; 258],
 ) -> bool
     ensures { λ r.
         let m = widthTold (now (s .entry)) in
-        let t = busesOf (now (kind .entry)) (now («vm_set» .entry)) (now (pd .entry)) (now (qd .entry)) (now (pg .entry)) (now (qg .entry)) (now («vm_case» .entry))
-        (now («va_case» .entry)) in
+        let t = busesOf kind «vm_set» pd qd pg qg «vm_case» «va_case» in
         ⌜ Tells r (firstBuses m t ≡ busesTold (now (s .entry))) ⌝ }
 {
     kinds(s, 0, kind)
@@ -242,66 +239,66 @@ fn buses_agree(
         & reals(s, 7, va_case)
 }
 
-fn slacks_agree(s: &[u8; 600000], slacks: &[usize; 258], va_slacks: &[f64; 258]) -> bool
+fn slacks_agree(s: &[u8; 600000], slacks: [usize; 258], va_slacks: [f64; 258]) -> bool
     ensures { λ r.
         let m = widthTold (now (s .entry)) in
-        ⌜ Tells r (firstSlacks m (slacksOf (now (slacks .entry)) (now («va_slacks» .entry))) ≡ slacksTold (now (s .entry))) ⌝ }
+        ⌜ Tells r (firstSlacks m (slacksOf slacks «va_slacks») ≡ slacksTold (now (s .entry))) ⌝ }
 {
     numbers(s, 8, slacks) & reals(s, 9, va_slacks)
 }
 
 fn generators_agree(
     s: &[u8; 600000],
-    gen_bus: &[usize; 258],
-    qmin: &[f64; 258],
-    qmax: &[f64; 258],
+    gen_bus: [usize; 258],
+    qmin: [f64; 258],
+    qmax: [f64; 258],
 ) -> bool
     ensures { λ r.
         let m = widthTold (now (s .entry)) in
-        ⌜ Tells r (firstGenerators m (generatorsOf (now («gen_bus» .entry)) (now (qmin .entry)) (now (qmax .entry))) ≡ generatorsTold (now (s .entry))) ⌝ }
+        ⌜ Tells r (firstGenerators m (generatorsOf «gen_bus» qmin qmax) ≡ generatorsTold (now (s .entry))) ⌝ }
 {
     numbers(s, 10, gen_bus) & reals(s, 11, qmin) & reals(s, 12, qmax)
 }
 
-// The ends of lines: j is the first of their two columns.
-fn branches_agree(s: &[u8; 600000], j: usize, from: &[usize; 258], to: &[usize; 258]) -> bool
+// The ends of the lines L or K: j is the first of their two columns.
+fn branches_agree(s: &[u8; 600000], j: usize, from: [usize; 258], to: [usize; 258]) -> bool
     requires { ⌜ j + 1 < 30 ⌝ }
     ensures { λ r.
         let m = widthTold (now (s .entry)) in
-        ⌜ Tells r (firstBranches m (branchesOf (now (from .entry)) (now (to .entry))) ≡ branchesTold (now (s .entry)) j) ⌝ }
+        ⌜ Tells r (firstBranches m (branchesOf from to) ≡ branchesTold (now (s .entry)) j) ⌝ }
 {
     numbers(s, j, from) & numbers(s, j + 1, to)
 }
 
 fn triplets_agree(
     s: &[u8; 600000],
-    y_row: &[usize; 258],
-    y_col: &[usize; 258],
-    y_re: &[f64; 258],
-    y_im: &[f64; 258],
+    y_row: [usize; 258],
+    y_col: [usize; 258],
+    y_re: [f64; 258],
+    y_im: [f64; 258],
 ) -> bool
     ensures { λ r.
         let m = widthTold (now (s .entry)) in
-        ⌜ Tells r (firstTriplets m (tripletsOf (now («y_row» .entry)) (now («y_col» .entry)) (now («y_re» .entry)) (now («y_im» .entry))) ≡ tripletsTold (now (s .entry))) ⌝ }
+        ⌜ Tells r (firstTriplets m (tripletsOf «y_row» «y_col» «y_re» «y_im») ≡ tripletsTold (now (s .entry))) ⌝ }
 {
     numbers(s, 15, y_row) & numbers(s, 16, y_col) & reals(s, 17, y_re) & reals(s, 18, y_im)
 }
 
 fn values_agree(
     s: &[u8; 600000],
-    g: &[f64; 258],
-    b: &[f64; 258],
-    g_fr: &[f64; 258],
-    b_fr: &[f64; 258],
-    g_to: &[f64; 258],
-    b_to: &[f64; 258],
-    tap: &[f64; 258],
-    shift: &[f64; 258],
-    sw: &[f64; 258],
+    g: [f64; 258],
+    b: [f64; 258],
+    g_fr: [f64; 258],
+    b_fr: [f64; 258],
+    g_to: [f64; 258],
+    b_to: [f64; 258],
+    tap: [f64; 258],
+    shift: [f64; 258],
+    sw: [f64; 258],
 ) -> bool
     ensures { λ r.
         let m = widthTold (now (s .entry)) in
-        let t = valuesOf (now (g .entry)) (now (b .entry)) (now («g_fr» .entry)) (now («b_fr» .entry)) (now («g_to» .entry)) (now («b_to» .entry)) (now (tap .entry)) (now (shift .entry)) (now (sw .entry)) in
+        let t = valuesOf g b «g_fr» «b_fr» «g_to» «b_to» tap shift sw in
         ⌜ Tells r (firstValues m t ≡ valuesTold (now (s .entry))) ⌝ }
 {
     reals(s, 21, g)
@@ -317,8 +314,7 @@ fn values_agree(
 
 // ---- the whole
 
-// Whether the reading of a text, into the first places of columns of marks and the eleven columns of a table of branches, is as the record says, but for this
-// table, which is the caller's to look at.
+// Reads a text into the first places of columns of marks and into the caller's table of branches. Whether the answer and all but this table is as the record says.
 fn rest_agrees(
     text: &[u8],
     s: &[u8; 600000],
@@ -339,7 +335,8 @@ fn rest_agrees(
         (valuesOf (now (g .entry)) (now (b .entry)) (now («g_fr» .entry)) (now («b_fr» .entry)) (now («g_to» .entry)) (now («b_to» .entry)) (now (tap .entry)) (now (shift .entry)) (now (sw .entry))) in
         let new = branchTableOf (branchesOf (now (from .exit)) (now (to .exit)))
         (valuesOf (now (g .exit)) (now (b .exit)) (now («g_fr» .exit)) (now («b_fr» .exit)) (now («g_to» .exit)) (now («b_to» .exit)) (now (tap .exit)) (now (shift .exit)) (now (sw .exit))) in
-        ⌜ TellsRest (now (text .entry)) (now (s .entry)) old new r ⌝ }
+        let o = readOf (now (text .entry)) (columnsOf (networkMarks (widthTold (now (s .entry)))) old) in
+        ⌜ Tells r (RestAgrees (now (s .entry)) o) × (tableIn o ≡ new) ⌝ }
 {
     let m = width(s);
     let mut kind = [251u8; 258];
@@ -361,7 +358,7 @@ fn rest_agrees(
     let mut y_col = [251usize; 258];
     let mut y_re = [1e300; 258];
     let mut y_im = [1e300; 258];
-    let v = case_text::read_case(
+    let v = reader::read_case(
         text,
         &mut kind[..m],
         &mut vm_set[..m],
@@ -395,14 +392,14 @@ fn rest_agrees(
         sw,
     );
     answered(s, v)
-        & buses_agree(s, &kind, &vm_set, &pd, &qd, &pg, &qg, &vm_case, &va_case)
-        & slacks_agree(s, &slacks, &va_slacks)
-        & generators_agree(s, &gen_bus, &qmin, &qmax)
-        & branches_agree(s, 13, &br_from, &br_to)
-        & triplets_agree(s, &y_row, &y_col, &y_re, &y_im)
+        & buses_agree(s, kind, vm_set, pd, qd, pg, qg, vm_case, va_case)
+        & slacks_agree(s, slacks, va_slacks)
+        & generators_agree(s, gen_bus, qmin, qmax)
+        & branches_agree(s, 13, br_from, br_to)
+        & triplets_agree(s, y_row, y_col, y_re, y_im)
 }
 
-// Whether the whole reading is as the record says, the table of branches too being marks before it.
+// Whether the reading of a text, into the first places of columns of marks, is as the record says.
 fn agrees(text: &[u8], s: &[u8; 600000]) -> bool
     ensures { λ r. ⌜ Tells r (Agrees (now (text .entry)) (now (s .entry))) ⌝ }
 {
@@ -434,8 +431,8 @@ fn agrees(text: &[u8], s: &[u8; 600000]) -> bool
         &mut sw[..m],
     );
     rest
-        & branches_agree(s, 19, &from, &to)
-        & values_agree(s, &g, &b, &g_fr, &b_fr, &g_to, &b_to, &tap, &shift, &sw)
+        & branches_agree(s, 19, from, to)
+        & values_agree(s, g, b, g_fr, b_fr, g_to, b_to, tap, shift, sw)
 }
 
 // One text: 0 where its reading agrees, 1 where it differs, 2 where the input has no whole record left.

@@ -23,14 +23,14 @@ use Rattle.rows.specs.declared.Section.{Section}
 use Rattle.rows.specs.declared.Section.the-variants as Section
 use Rattle.rows.specs.declared.Check.the-variants as Check
 use Rattle.columns.specs.Columns.{rowCount}
-use Rattle.trailer.specs.Trailer.{trailerStart, editionOf, trailerOf, behindG, lastOf, sectionStart, sectionEnd, bytesOf, placesOf}
+use Rattle.trailer.specs.Trailer.{trailerStart, trailerOf, behindG, lastOf, sectionStart, sectionEnd, bytesOf, placesOf}
 use Rattle.trailer.specs.Trailer.Laws.{within, starts-B, starts-R, starts-G, starts-behind-G, starts-last, G-meets}
 use Rattle.trailer.specs.declared.Edition.{Edition}
 use Rattle.trailer.specs.declared.Edition.the-variants.{First, Second}
 use Rattle.case_text.specs.Text.{partBy, partOf, tripletPartOf, checkedText}
 use Rattle.case_text.specs.Text.Laws.{Accepted, accepted-has}
 use Rattle.case_text.specs.Answer.{withRoom, judgedOf, filledFrom, branchesFrom, tablesBy, branchTablesBy, filledOf, branchFilledOf, ReadResult, readResult, paperOf, resultOf}
-use Rattle.case_text.specs.Answer.{readFirstBy, readFirst, readSecondBy, readSecond, Columns, columnsOf, branchesIn, withFirst, withSecond, readOf}
+use Rattle.case_text.specs.Answer.{readFirstBy, readFirst, readSecondBy, readSecond}
 use Rattle.case_text.specs.declared.Contents.{Contents}
 use Rattle.trailer.specs.declared.Places.{Places}
 use Rattle.case_text.specs.declared.Reading.{Reading}
@@ -228,16 +228,3 @@ module _ (s : List ℕ) (m : Rows) (v : Reading) where
     pub branches-read-refused : ((n : BranchNetwork) → resultOf v n old ≡ readResult (paperOf v) old) → readResult (paperOf v) old ≡ readSecond s old
     unfolding readSecondBy
     branches-read-refused k = result-refused Second s m (branchRoomOf old) v r h old _ (k _)
-
--- ---- the reader of both editions
-
-module _ (s : List ℕ) (old : Columns) (x : Edition) (is : x ≡ editionOf s) where
-  pub read-as-first : x ≡ First → (v : Reading) (new : Network) → readResult (paperOf v) new ≡ readFirst s (old .network)
-      → readResult (paperOf v) (columnsOf new (old .table)) ≡ readOf s old
-  unfolding readOf
-  read-as-first e v new h = rw (← is, e) (ap (withFirst old) h)
-
-  pub read-as-second : x ≡ Second → (v : Reading) (new : BranchNetwork) → readResult (paperOf v) new ≡ readSecond s (branchesIn old)
-      → withSecond old (readResult (paperOf v) new) ≡ readOf s old
-  unfolding readOf
-  read-as-second e v new h = rw (← is, e) (ap (withSecond old) h)

@@ -13,8 +13,8 @@ use Rattle.text_vectors.proofs.agrees.Tie as tie
 
 returns : tie.Need-returns
 returns c =
-    let branches = c .before .before .before .before .before .before .before .before .before .before in
-    let read = branches .before .before .before .before .before .before .before .before .before .before .before .before .before .before in
+    let branches = c .before in
+    let read = branches .before .before .before .before .before .before .before .before .before .before .before .before in
     let width = read .before .before .before .before .before .before .before .before .before .before .before .before in
     let m = width .width .ensures .0 in
     let few = width .width .ensures .1 in
@@ -24,9 +24,11 @@ returns c =
     let lv = le .1 .1 in
     let ke = read .rest-agrees .kept .1 .1 in
     let kv = ke .1 .1 in
-    outcome-told _ (width .before .before .args .s .now) (rw m at (read .rest-agrees .ensures .table)) (rw m at (read .rest-agrees .ensures .rest))
+    outcome-told _ (width .before .before .args .s .now) (rw m at (read .rest-agrees .ensures .1)) (rw m at (read .rest-agrees .ensures .0))
     (same-told (λ i. branchesOf (n (le .0) (ke .0) i) (n (le .1 .0) (ke .1 .0) i)) (branches .branches-agree .ensures))
-    (same-told (λ i. valuesOf (x (lv .0) (kv .0) i) (x (lv .1 .0) (kv .1 .0) i) (x (lv .1 .1 .0) (kv .1 .1 .0) i) (x (lv .1 .1 .1 .0) (kv .1 .1 .1 .0) i) (x (lv .1 .1 .1 .1 .0) (kv .1 .1 .1 .1 .0) i) (x (lv .1 .1 .1 .1 .1 .0) (kv .1 .1 .1 .1 .1 .0) i) (x (lv .1 .1 .1 .1 .1 .1 .0) (kv .1 .1 .1 .1 .1 .1 .0) i) (x (lv .1 .1 .1 .1 .1 .1 .1 .0) (kv .1 .1 .1 .1 .1 .1 .1 .0) i) (x (lv .1 .1 .1 .1 .1 .1 .1 .1 .0) (kv .1 .1 .1 .1 .1 .1 .1 .1 .0) i))
+    (same-told (λ i. valuesOf (x (lv .0) (kv .0) i) (x (lv .1 .0) (kv .1 .0) i) (x (lv .1 .1 .0) (kv .1 .1 .0) i) (x (lv .1 .1 .1 .0) (kv .1 .1 .1 .0) i)
+    (x (lv .1 .1 .1 .1 .0) (kv .1 .1 .1 .1 .0) i) (x (lv .1 .1 .1 .1 .1 .0) (kv .1 .1 .1 .1 .1 .0) i) (x (lv .1 .1 .1 .1 .1 .1 .0) (kv .1 .1 .1 .1 .1 .1 .0) i)
+    (x (lv .1 .1 .1 .1 .1 .1 .1 .0) (kv .1 .1 .1 .1 .1 .1 .1 .0) i) (x (lv .1 .1 .1 .1 .1 .1 .1 .1 .0) (kv .1 .1 .1 .1 .1 .1 .1 .1 .0) i))
     (c .values-agree .ensures))
 
 pub agrees-spec : {M : Type 1} → statement M

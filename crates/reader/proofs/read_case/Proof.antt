@@ -1,12 +1,12 @@
--- `case_text::read_case` meets its contract: the text is read by the rules of the edition that is told of it. Assumes nothing.
+-- `reader::read_case` meets its contract: the text is read by the rules of the edition that is told of it. Assumes nothing.
 use mathlib.Core.Path.{_∙_}
 use borrow.Author.Needs.{needs}
 use Rattle.network.specs.Network.{busesOf, slacksOf, generatorsOf, branchesOf, tripletsOf, networkOf}
 use Rattle.network.specs.BranchTable.{valuesOf, branchTableOf}
-use Rattle.case_text.specs.Answer.{Columns, columnsOf}
-use Rattle.case_text.specs.Answer.Laws.{read-as-first, read-as-second}
-use Rattle.case_text.proofs.read_case.Statement.{statement}
-use Rattle.case_text.proofs.read_case.Tie as tie
+use Rattle.reader.specs.Reader.{Columns, columnsOf}
+use Rattle.reader.specs.Reader.Laws.{read-as-first, read-as-second}
+use Rattle.reader.proofs.read_case.Statement.{statement}
+use Rattle.reader.proofs.read_case.Tie as tie
 
 -- ---- the places on the way, by name
 
