@@ -26,25 +26,25 @@ pub enum Answered {
 fn solve_rows(
     rows: Rows,
     start: AcStart,
-    kind: [u8; 32],
-    vm_set: [f64; 32],
-    pd: [f64; 32],
-    qd: [f64; 32],
-    pg: [f64; 32],
-    qg: [f64; 32],
-    vm_case: [f64; 32],
-    va_case: [f64; 32],
-    slacks: [usize; 32],
-    va_slacks: [f64; 32],
-    gen_bus: [usize; 32],
-    qmin: [f64; 32],
-    qmax: [f64; 32],
-    br_from: [usize; 64],
-    br_to: [usize; 64],
-    y_row: [usize; 256],
-    y_col: [usize; 256],
-    y_re: [f64; 256],
-    y_im: [f64; 256],
+    kind: &[u8],
+    vm_set: &[f64],
+    pd: &[f64],
+    qd: &[f64],
+    pg: &[f64],
+    qg: &[f64],
+    vm_case: &[f64],
+    va_case: &[f64],
+    slacks: &[usize],
+    va_slacks: &[f64],
+    gen_bus: &[usize],
+    qmin: &[f64],
+    qmax: &[f64],
+    br_from: &[usize],
+    br_to: &[usize],
+    y_row: &[usize],
+    y_col: &[usize],
+    y_re: &[f64],
+    y_im: &[f64],
     vm: &mut [f64],
     va: &mut [f64],
     p: &mut [f64],
@@ -55,11 +55,11 @@ fn solve_rows(
     ghost { Network × Outs × List Float }
     requires { λ α. ⌜ (
       networkOf
-          (busesOf kind «vm_set» pd qd pg qg «vm_case» «va_case»)
-          (slacksOf slacks «va_slacks»)
-          (generatorsOf «gen_bus» qmin qmax)
-          (branchesOf «br_from» «br_to»)
-          (tripletsOf «y_row» «y_col» «y_re» «y_im»),
+          (busesOf (now kind) (now «vm_set») (now pd) (now qd) (now pg) (now qg) (now «vm_case») (now «va_case»))
+          (slacksOf (now slacks) (now «va_slacks»))
+          (generatorsOf (now «gen_bus») (now qmin) (now qmax))
+          (branchesOf (now «br_from») (now «br_to»))
+          (tripletsOf (now «y_row») (now «y_col») (now «y_re») (now «y_im»)),
       outs (now vm) (now va) (now p) (now q) (now kinds),
       now w,
     ) ≡ α ⌝ }
@@ -166,25 +166,25 @@ fn answer_first(
     let found = solve_rows(
         rows,
         start,
-        kind,
-        vm_set,
-        pd,
-        qd,
-        pg,
-        qg,
-        vm_case,
-        va_case,
-        slacks,
-        va_slacks,
-        gen_bus,
-        qmin,
-        qmax,
-        br_from,
-        br_to,
-        y_row,
-        y_col,
-        y_re,
-        y_im,
+        &kind,
+        &vm_set,
+        &pd,
+        &qd,
+        &pg,
+        &qg,
+        &vm_case,
+        &va_case,
+        &slacks,
+        &va_slacks,
+        &gen_bus,
+        &qmin,
+        &qmax,
+        &br_from,
+        &br_to,
+        &y_row,
+        &y_col,
+        &y_re,
+        &y_im,
         vm,
         va,
         p,
@@ -197,7 +197,7 @@ fn answer_first(
 
 // ---- the second edition
 
-// The same of tables of branches.
+// The same of tables of branches, whose columns are handed over by value.
 fn solve_branch_rows(
     rows: Rows,
     start: AcStart,

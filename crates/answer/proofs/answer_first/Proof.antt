@@ -11,12 +11,69 @@ read-of c = c .before .before .before .before .before .before .before .before .b
 
 -- and where the rows are handed on
 abbrev told-of : tie.After-solve-rows-arg6 → tie.After-known-told
-told-of c = c .before .before .before .before .before .before .before
+told-of c = c .before .before .before .before .before .before .before .before .before .before .before .before .before .before .before .before .before .before .before .before .before .before .before .before .before .before
 
 -- ---- the needs
 
 returns : tie.Need-returns
 returns c = let r = read-of (c .before) .read-triplets in (first-unread _ (r .result) _ (r .ensures) (c .match .keys2) _ _, search needs)
+
+slice-aggregate-solve-rows : tie.Need-slice-aggregate-solve-rows
+slice-aggregate-solve-rows c = search needs
+
+slice-aggregate-solve-rows-2 : tie.Need-slice-aggregate-solve-rows-2
+slice-aggregate-solve-rows-2 c = search needs
+
+slice-aggregate-solve-rows-3 : tie.Need-slice-aggregate-solve-rows-3
+slice-aggregate-solve-rows-3 c = search needs
+
+slice-aggregate-solve-rows-4 : tie.Need-slice-aggregate-solve-rows-4
+slice-aggregate-solve-rows-4 c = search needs
+
+slice-aggregate-solve-rows-5 : tie.Need-slice-aggregate-solve-rows-5
+slice-aggregate-solve-rows-5 c = search needs
+
+slice-aggregate-solve-rows-6 : tie.Need-slice-aggregate-solve-rows-6
+slice-aggregate-solve-rows-6 c = search needs
+
+slice-aggregate-solve-rows-7 : tie.Need-slice-aggregate-solve-rows-7
+slice-aggregate-solve-rows-7 c = search needs
+
+slice-aggregate-solve-rows-8 : tie.Need-slice-aggregate-solve-rows-8
+slice-aggregate-solve-rows-8 c = search needs
+
+slice-aggregate-solve-rows-9 : tie.Need-slice-aggregate-solve-rows-9
+slice-aggregate-solve-rows-9 c = search needs
+
+slice-aggregate-solve-rows-10 : tie.Need-slice-aggregate-solve-rows-10
+slice-aggregate-solve-rows-10 c = search needs
+
+slice-aggregate-solve-rows-11 : tie.Need-slice-aggregate-solve-rows-11
+slice-aggregate-solve-rows-11 c = search needs
+
+slice-aggregate-solve-rows-12 : tie.Need-slice-aggregate-solve-rows-12
+slice-aggregate-solve-rows-12 c = search needs
+
+slice-aggregate-solve-rows-13 : tie.Need-slice-aggregate-solve-rows-13
+slice-aggregate-solve-rows-13 c = search needs
+
+slice-aggregate-solve-rows-14 : tie.Need-slice-aggregate-solve-rows-14
+slice-aggregate-solve-rows-14 c = search needs
+
+slice-aggregate-solve-rows-15 : tie.Need-slice-aggregate-solve-rows-15
+slice-aggregate-solve-rows-15 c = search needs
+
+slice-aggregate-solve-rows-16 : tie.Need-slice-aggregate-solve-rows-16
+slice-aggregate-solve-rows-16 c = search needs
+
+slice-aggregate-solve-rows-17 : tie.Need-slice-aggregate-solve-rows-17
+slice-aggregate-solve-rows-17 c = search needs
+
+slice-aggregate-solve-rows-18 : tie.Need-slice-aggregate-solve-rows-18
+slice-aggregate-solve-rows-18 c = search needs
+
+slice-aggregate-solve-rows-19 : tie.Need-slice-aggregate-solve-rows-19
+slice-aggregate-solve-rows-19 c = search needs
 
 solve-rows-requires : tie.Need-solve-rows-requires
 solve-rows-requires c κs =
@@ -39,4 +96,8 @@ answer-first-spec =
     (λ c. search needs) (λ c. search needs) (λ c. search needs) (λ c. search needs) (λ c. search needs) (λ c. search needs) (λ c. search needs)
     (λ c. search needs) (λ c. search needs) (λ c. search needs) (λ c. search needs) (λ c. search needs) (λ c. search needs) (λ c. search needs)
     (λ c. search needs) (λ c. search needs) (λ c. search needs) (λ c. search needs) (λ c. search needs) (λ c κs. search needs) (λ c. search needs)
-    returns solve-rows-requires (λ c. search needs) returns-2)
+    returns slice-aggregate-solve-rows slice-aggregate-solve-rows-2 slice-aggregate-solve-rows-3 slice-aggregate-solve-rows-4
+    slice-aggregate-solve-rows-5 slice-aggregate-solve-rows-6 slice-aggregate-solve-rows-7 slice-aggregate-solve-rows-8 slice-aggregate-solve-rows-9
+    slice-aggregate-solve-rows-10 slice-aggregate-solve-rows-11 slice-aggregate-solve-rows-12 slice-aggregate-solve-rows-13
+    slice-aggregate-solve-rows-14 slice-aggregate-solve-rows-15 slice-aggregate-solve-rows-16 slice-aggregate-solve-rows-17
+    slice-aggregate-solve-rows-18 slice-aggregate-solve-rows-19 solve-rows-requires (λ c. search needs) returns-2)
