@@ -31,7 +31,7 @@ build() { # FOLDER
         "them, is not on the PATH. Put the toolchain there, or take your changes back (git status shows them)"
     mkdir -p "$here/target" 2>/dev/null && [ -w "$here/target" ] || give_up "the program must be built, and $here can't be written"
     before=$(sources_sum)
-    say "the program is proved and compiled; this is done once and takes about 12 minutes"
+    say "the program is proved and compiled; this is done once and takes about 10 minutes"
     proving "$here/target/solve.log" solve rt check solve || give_up "the program could not be built; target/solve.log says why"
     [ "$(sources_sum)" = "$before" ] || give_up "the sources were changed while they were proved; call it again"
     mkdir -p "$1" &&
