@@ -7,9 +7,9 @@ rounds once; sine and cosine are those of exact.py.
     python3 oracle/injection_vectors.py      writes crates/injection_vectors/stdin and stdout; the same each time
 
 stdin, in words of eight bytes, the highest first: how many points; then for each the bus count n, the count of triplets m, the dim; the rows,
-the columns, the real parts and the imaginary parts of the triplets; magnitudes and angles; the columns of angles and magnitudes and the active
-and reactive rows of each bus (64 for none); then what has to come out: voltages, currents (real parts, then imaginary parts), p, q, and
-the matrix, dim rows of dim.
+the columns, the real parts and the imaginary parts of the triplets; magnitudes and angles; the columns of each bus's angle and magnitude (64 for
+none), which are its active and reactive row too; then what has to come out: voltages, currents (real parts, then imaginary parts), p, q, and the
+matrix, dim rows of dim.
 """
 import functools
 import math
@@ -71,7 +71,8 @@ def ac_injections(ybus, vm, va):
 
 
 def ac_jacobian(ybus, vm, va, i_bus, layout):
-    va_of, vm_of, p_of, q_of = layout
+    va_of, vm_of = layout
+    p_of, q_of = layout  # rows match columns
     v = [polar(r, t) for r, t in zip(vm, va)]
     entries = []
     for i, k, y in ybus:
@@ -103,7 +104,7 @@ def layout_of(kinds):
     magnitudes = [b for b, k in enumerate(kinds) if k == "Q"]
     a = [angles.index(b) if b in angles else NONE for b in range(len(kinds))]
     m = [len(angles) + magnitudes.index(b) if b in magnitudes else NONE for b in range(len(kinds))]
-    return (a, m, a, m), len(angles) + len(magnitudes)
+    return (a, m), len(angles) + len(magnitudes)
 
 
 # ---- the classes: a double for a part of an admittance, a magnitude, an angle
@@ -183,9 +184,9 @@ def point(rng, n, m, kind, diagonal=1, kinds="SVQ"):
 
 
 def crowded(rng, n, m, dim):
-    """Rows and columns drawn at random, so that entries of one triplet meet in one place and their order shows."""
+    """Numbers drawn at random, so that entries of one triplet meet in one place and their order shows."""
     ybus, vm, va, _ = point(rng, n, m, "plain")
-    return ybus, vm, va, (tuple([rng.choice((NONE, *range(dim))) for _ in range(n)] for _ in range(4)), dim)
+    return ybus, vm, va, (tuple([rng.choice((NONE, *range(dim))) for _ in range(n)] for _ in range(2)), dim)
 
 
 def points(rng):

@@ -60,6 +60,6 @@ zeros = record { size = length-replicate 4224 nought; each = λ i h. getD-replic
 one-space : {w v : List Float} → Zeros w → Zeros v → w ≡ v
 one-space {w} {v} a b = is-each 4224 (λ i. nought) nan w (a .size) (a .each) ∙ sym (is-each 4224 (λ i. nought) nan v (b .size) (b .each))
 
-pub entries-told : (s : List ℕ) (n m dim : ℕ) (w v : List Float) (r : Bool) → Zeros w → v ≡ jacobianAt s n m dim w → Tells r (Holds v s (m * 32 + n * 96) dim)
+pub entries-told : (s : List ℕ) (n m dim : ℕ) (w v : List Float) (r : Bool) → Zeros w → v ≡ jacobianAt s n m dim w → Tells r (Holds v s (m * 32 + n * 80) dim)
     → Tells r (Entries s n m dim)
 entries-told s n m dim w v r z is t = (λ e u y. rw (one-space y z, ← is) (t .0 e), λ h. t .1 (rw is (h w z)))

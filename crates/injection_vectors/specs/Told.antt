@@ -1,5 +1,5 @@
 -- What the input says of a point of n buses and m triplets: rows, columns, real and imaginary parts of the triplets; magnitudes and angles; the
--- layout's four tables; then what has to come out: voltages, currents, powers, and dim rows of dim entries of the matrix. Eight bytes each.
+-- layout's two tables; then what has to come out: voltages, currents, powers, and dim rows of dim entries of the matrix. Eight bytes each.
 use Prim.Native.Nat.{ℕ, _+_, _*_, _≤_, _<_, _/_, _%_}
 use mathlib.Core.Path.{_≡_}
 use mathlib.Core.Bool.{cond}
@@ -50,8 +50,6 @@ layoutTold s from n dim =
       n = n;
       «va_of» = columnsTold s from n;
       «vm_of» = columnsTold s (from + n * 8) n;
-      «p_of» = columnsTold s (from + n * 16) n;
-      «q_of» = columnsTold s (from + n * 24) n;
       dim = dim;
     }
 
@@ -82,7 +80,7 @@ pub record Fits (s : List ℕ) (n m dim : ℕ) : Type 0 where
   pub few : n ≤ 32
   pub triplets : m ≤ 256
   pub rows : dim ≤ 64
-  pub whole : m * 32 + n * 96 + dim * dim * 8 ≤ length s
+  pub whole : m * 32 + n * 80 + dim * dim * 8 ≤ length s
 
 abbrev pub vmTold : List ℕ → ℕ → ℕ → List Float
 vmTold s n m = tableTold s (m * 32) n
@@ -99,11 +97,11 @@ jacobianAt s n m dim w = jacobianOf (tripletsTold s m) (vaTold s n m) (phasorsOf
 
 -- the Jacobian, added to zeros, is what is told
 abbrev pub Entries : List ℕ → ℕ → ℕ → ℕ → Type 0
-Entries s n m dim = (w : List Float) → Zeros w → Holds (jacobianAt s n m dim w) s (m * 32 + n * 96) dim
+Entries s n m dim = (w : List Float) → Zeros w → Holds (jacobianAt s n m dim w) s (m * 32 + n * 80) dim
 
 -- bus numbers are below n; injections and Jacobian are what is told
 pub record Agrees (s : List ℕ) (n m dim : ℕ) : Type 0 where
   pub rows : Below n (tripletsTold s m .row)
   pub cols : Below n (tripletsTold s m .col)
-  pub injected : injectionsAt s n m ≡ injectionsTold s (m * 32 + n * 48) n
+  pub injected : injectionsAt s n m ≡ injectionsTold s (m * 32 + n * 32) n
   pub entries : Entries s n m dim

@@ -58,19 +58,15 @@ fn columns(s: &[u8], from: usize, n: usize) -> [usize; 32]
 }
 
 fn layout_at(s: &[u8], from: usize, n: usize, dim: usize) -> AcPfLayout
-    requires { ⌜ (n ≤ 32) × (from + n * 32 ≤ length (now s)) ⌝ }
+    requires { ⌜ (n ≤ 32) × (from + n * 16 ≤ length (now s)) ⌝ }
     ensures { λ r. ⌜ r ≡ layoutTold (now (s .entry)) from n dim ⌝ }
 {
     let va_of = columns(s, from, n);
     let vm_of = columns(s, from + n * 8, n);
-    let p_of = columns(s, from + n * 16, n);
-    let q_of = columns(s, from + n * 24, n);
     AcPfLayout {
         n,
         va_of,
         vm_of,
-        p_of,
-        q_of,
         dim,
     }
 }
@@ -162,12 +158,12 @@ fn injections_agree(
     im: &[f64],
 ) -> bool
     requires { ⌜ Fits (now s) n m dim × (tripletsOf (now row) (now col) (now re) (now im) ≡ tripletsTold (now s) m) × GoodTriplets n (tripletsTold (now s) m) ⌝ }
-    ensures { λ r. ⌜ Tells r (injectionsAt (now (s .entry)) n m ≡ injectionsTold (now (s .entry)) (m * 32 + n * 48) n) ⌝ }
+    ensures { λ r. ⌜ Tells r (injectionsAt (now (s .entry)) n m ≡ injectionsTold (now (s .entry)) (m * 32 + n * 32) n) ⌝ }
 {
     let vm = doubles(s, m * 32, n);
     let va = doubles(s, m * 32 + n * 8, n);
     let found = injections::ac_injections(n, row, col, re, im, vm, va);
-    injections_told(found, s, m * 32 + n * 48, n)
+    injections_told(found, s, m * 32 + n * 32, n)
 }
 
 fn jacobian_at(
@@ -207,7 +203,7 @@ fn jacobian_agrees(
     let mut space = [0.0; 4224];
     let w: &mut [f64] = &mut space;
     jacobian_at(w, s, n, m, dim, row, col, re, im);
-    space_told(w, s, m * 32 + n * 96, dim)
+    space_told(w, s, m * 32 + n * 80, dim)
 }
 
 // Whether each number of a column is below n.
@@ -287,7 +283,7 @@ fn point(s: &[u8], n: usize, m: usize, dim: usize) -> bool
 }
 
 // One point: 0 where all agree, 1 where something differs, 2 where the input has no whole point left.
-fn next(head: &mut [u8; 24], body: &mut [u8; 44032]) -> u64
+fn next(head: &mut [u8; 24], body: &mut [u8; 43520]) -> u64
     ensures { λ r. ⌜ Found 2 r (Agrees (now (body .exit)) (wordOf 0 (now (head .exit))) (wordOf 8 (now (head .exit))) (wordOf 16 (now (head .exit)))) ⌝ }
 {
     if !vectors::read(STDIN_FILENO, head, 24) {
@@ -305,7 +301,7 @@ fn next(head: &mut [u8; 24], body: &mut [u8; 44032]) -> u64
     if dim > 64 {
         return 2;
     }
-    if !vectors::read(STDIN_FILENO, body, m * 32 + n * 96 + dim * dim * 8) {
+    if !vectors::read(STDIN_FILENO, body, m * 32 + n * 80 + dim * dim * 8) {
         return 2;
     }
     vectors::agreement(point(body, n, m, dim))
@@ -314,7 +310,7 @@ fn next(head: &mut [u8; 24], body: &mut [u8; 44032]) -> u64
 fn main() {
     let mut head = [0u8; 24];
     // room for the largest point
-    let mut body = [0u8; 44032];
+    let mut body = [0u8; 43520];
     vectors::read(STDIN_FILENO, &mut head, 8);
     let count = vectors::word(&head, 0);
     let mut done = 0;

@@ -26,7 +26,7 @@ phasors = record { v = record { re = double 1 ∷ []; im = double 0 ∷ [] }; i 
 
 -- one unknown: the angle
 abbrev pub lone : AcPfLayout
-lone = record { n = 1; «va_of» = 0 ∷ []; «vm_of» = none ∷ []; «p_of» = 0 ∷ []; «q_of» = none ∷ []; dim = 1 }
+lone = record { n = 1; «va_of» = 0 ∷ []; «vm_of» = none ∷ []; dim = 1 }
 
 abbrev pub space : List Float
 space = replicate 64 nought

@@ -2,6 +2,7 @@
 -- column, and adds up to four entries to the matrix. Each product binds to the left, as the Rust's operators do.
 pub mod Laws
 pub mod Space
+pub mod FourTables
 use Prim.Native.Nat.{ℕ, zero, suc}
 use mathlib.Core.Bool.{cond}
 use mathlib.Core.List.{List}
@@ -12,7 +13,7 @@ use Rattle.real.specs.Literals.{one}
 use Rattle.complex.specs.declared.Complex.{Complex}
 use Rattle.complex.specs.Numbers.{i, sumOf, differenceOf, negationOf, conjugateOf, productOf, polarOf}
 use Rattle.layout.specs.declared.AcPfLayout.{AcPfLayout}
-use Rattle.layout.specs.Layout.{none}
+use Rattle.layout.specs.Layout.{none, vaCol, vmCol, pRow, qRow}
 use Rattle.linsolve.specs.Linear.{added}
 use Rattle.injections.specs.declared.Phasors.{Phasors}
 use Rattle.injections.specs.declared.Derivatives.{Derivatives}
@@ -72,7 +73,7 @@ jacobianTo zero y va s l w = w
 jacobianTo (suc k) y va s l w =
     let a = rowOf y k in
     let b = colOf y k in
-    enteredAll (getD (l .«p_of») a 0) (getD (l .«q_of») a 0) (getD (l .«va_of») b 0) (getD (l .«vm_of») b 0) (derivativesAt y va s k) (jacobianTo k y va s l w)
+    enteredAll (pRow l a) (qRow l a) (vaCol l b) (vmCol l b) (derivativesAt y va s k) (jacobianTo k y va s l w)
 
 -- and after all of them
 abbrev pub jacobianOf : Triplets → List Float → Phasors → AcPfLayout → List Float → List Float

@@ -246,8 +246,8 @@ pub fn ac_jacobian(
     for t in 0..y_row.len() {
         let i = bus(y_row, t, n);
         let k = bus(y_col, t, n);
-        let p = layout.p_of[i];
-        let q = layout.q_of[i];
+        let p_row = layout.va_of[i];
+        let q_row = layout.vm_of[i];
         let va_col = layout.va_of[k];
         let vm_col = layout.vm_of[k];
         let y = Complex::new(y_re[t], y_im[t]);
@@ -256,6 +256,6 @@ pub fn ac_jacobian(
         let vk = Complex::new(v_bus.re[k], v_bus.im[k]);
         let u = Complex::new(unit.re[k], unit.im[k]);
         let d = derivatives_at(i, k, y, v, c, vk, u);
-        enter_all(w, p, q, va_col, vm_col, d);
+        enter_all(w, p_row, q_row, va_col, vm_col, d);
     }
 }

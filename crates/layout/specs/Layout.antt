@@ -59,17 +59,28 @@ magnitudeAt kinds first b = magnitudeCol (kindOf kinds b) (magnitudeCount b kind
 
 unfoldable pub layoutOf : ℕ → List BusKind → AcPfLayout
 layoutOf n kinds =
-    let angles = table n none (angleAt kinds) in
-    let magnitudes = table n none (magnitudeAt kinds (angleCount n kinds)) in
     record {
       n = n;
-      «va_of» = angles;
-      «vm_of» = magnitudes;
-      «p_of» = angles;
-      «q_of» = magnitudes;
+      «va_of» = table n none (angleAt kinds);
+      «vm_of» = table n none (magnitudeAt kinds (angleCount n kinds));
       dim = magnitudeCount n kinds (angleCount n kinds);
     }
 
+-- ---- what is asked of it, beside its size
+
+abbrev pub vaCol : AcPfLayout → ℕ → ℕ
+vaCol l b = getD (l .«va_of») b 0
+
+abbrev pub vmCol : AcPfLayout → ℕ → ℕ
+vmCol l b = getD (l .«vm_of») b 0
+
+-- rows match: the active row has the angle's number, the reactive row the magnitude's
+abbrev pub pRow : AcPfLayout → ℕ → ℕ
+pRow l b = vaCol l b
+
+abbrev pub qRow : AcPfLayout → ℕ → ℕ
+qRow l b = vmCol l b
+
 -- no angle column: slack; an angle but no magnitude column: V; both: Q
 abbrev pub kindIn : AcPfLayout → ℕ → BusKind
-kindIn l b = cond (eqb (getD (l .«va_of») b 0) none) Slack (cond (eqb (getD (l .«vm_of») b 0) none) Pv Pq)
+kindIn l b = cond (eqb (vaCol l b) none) Slack (cond (eqb (vmCol l b) none) Pv Pq)

@@ -2,4 +2,5 @@ pub mod Table
 pub mod Kinds
 pub mod Layout
 pub mod Residual
+pub mod FourTables
 pub mod Limits

@@ -8,7 +8,7 @@ use lib.ListN.{getD, set, replicate}
 use lib.Ieee.{Float, nan, binary64, sub}
 use Rattle.real.specs.Literals.{nought}
 use Rattle.layout.specs.declared.AcPfLayout.{AcPfLayout}
-use Rattle.layout.specs.Layout.{none}
+use Rattle.layout.specs.Layout.{none, pRow, qRow}
 
 -- what the residual is made of: demands, generation, and what the voltages give
 pub record Powers : Type 0 where
@@ -40,7 +40,7 @@ atRow r row x = cond (ltb row none) (set r row x) r
 unfoldable pub residualTo : ℕ → AcPfLayout → Powers → List Float
 unfolding atRow
 residualTo zero l w = replicate 64 nought
-residualTo (suc k) l w = atRow (atRow (residualTo k l w) (getD (l .«p_of») k 0) (missingP w k)) (getD (l .«q_of») k 0) (missingQ w k)
+residualTo (suc k) l w = atRow (atRow (residualTo k l w) (pRow l k) (missingP w k)) (qRow l k) (missingQ w k)
 
 abbrev pub residualOf : AcPfLayout → Powers → List Float
 residualOf l w = residualTo (l .n) l w

@@ -5,7 +5,7 @@ ghost use lib.ListN.{length, getD};
 ghost use Rattle.network.specs.Below.{Below};
 ghost use Rattle.layout.specs.Table.{table};
 ghost use Rattle.layout.specs.Kinds.{flagKind, kindsOf};
-ghost use Rattle.layout.specs.Layout.{none, angleCol, nextAngle, angleAt, angleCount, magnitudeCol, nextMagnitude, magnitudeAt, magnitudeCount, layoutOf, kindIn};
+ghost use Rattle.layout.specs.Layout.{none, angleCol, nextAngle, angleAt, angleCount, magnitudeCol, nextMagnitude, magnitudeAt, magnitudeCount, layoutOf, vaCol, vmCol, pRow, qRow, kindIn};
 ghost use Rattle.layout.specs.Residual.{powers, missing, atRow, residualOf};
 ghost use Rattle.layout.specs.Limits.{limitsOf};
 ghost use Rattle.layout.specs.declared.BusKind.the-variants.{Pq};
@@ -20,13 +20,12 @@ pub enum BusKind {
 // A missing column or row.
 pub const NONE: usize = 64;
 
-// The unknowns and equations of each bus. Columns: angles of non-slack buses, then magnitudes of Pq buses. Rows match.
+// The unknowns and equations of each bus. Columns: angles of non-slack buses, then magnitudes of Pq buses. Rows match, so one number is a bus's
+// angle column and its active row, and one its magnitude column and its reactive row.
 pub struct AcPfLayout {
     pub n: usize,
     pub va_of: [usize; 32],
     pub vm_of: [usize; 32],
-    pub p_of: [usize; 32],
-    pub q_of: [usize; 32],
     pub dim: usize,
 }
 
@@ -190,8 +189,6 @@ impl AcPfLayout {
             n,
             va_of,
             vm_of,
-            p_of: va_of,
-            q_of: vm_of,
             dim: m.next,
         }
     }
@@ -220,30 +217,31 @@ impl AcPfLayout {
 
     pub fn va_col(self, bus: usize) -> usize
         requires { ⌜ bus < 32 ⌝ }
-        ensures { λ r. ⌜ r ≡ getD (self .«va_of») bus 0 ⌝ }
+        ensures { λ r. ⌜ r ≡ vaCol self bus ⌝ }
     {
         self.va_of[bus]
     }
 
     pub fn vm_col(self, bus: usize) -> usize
         requires { ⌜ bus < 32 ⌝ }
-        ensures { λ r. ⌜ r ≡ getD (self .«vm_of») bus 0 ⌝ }
+        ensures { λ r. ⌜ r ≡ vmCol self bus ⌝ }
     {
         self.vm_of[bus]
     }
 
+    // A row has the number of its column.
     pub fn p_row(self, bus: usize) -> usize
         requires { ⌜ bus < 32 ⌝ }
-        ensures { λ r. ⌜ r ≡ getD (self .«p_of») bus 0 ⌝ }
+        ensures { λ r. ⌜ r ≡ pRow self bus ⌝ }
     {
-        self.p_of[bus]
+        self.va_col(bus)
     }
 
     pub fn q_row(self, bus: usize) -> usize
         requires { ⌜ bus < 32 ⌝ }
-        ensures { λ r. ⌜ r ≡ getD (self .«q_of») bus 0 ⌝ }
+        ensures { λ r. ⌜ r ≡ qRow self bus ⌝ }
     {
-        self.q_of[bus]
+        self.vm_col(bus)
     }
 
     // The mismatch at each row that exists. The other places are 0.0.
@@ -263,9 +261,9 @@ impl AcPfLayout {
         let mut r = [0.0; 64];
         for b in 0..n {
             let x = missing_power(pg[b], pd[b], p_calc[b]);
-            put(&mut r, self.p_of[b], x);
+            put(&mut r, self.va_of[b], x);
             let y = missing_power(qg[b], qd[b], q_calc[b]);
-            put(&mut r, self.q_of[b], y);
+            put(&mut r, self.vm_of[b], y);
         }
         r
     }

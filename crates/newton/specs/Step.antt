@@ -1,5 +1,6 @@
 -- 01, "Newton": a trial, and what uses up its try.
 pub mod Laws
+pub mod FourTables
 use Prim.Native.Nat.{ℕ, _+_}
 use mathlib.Core.Bool.{Bool, _||_, cond}
 use mathlib.Core.List.{List}
@@ -9,7 +10,7 @@ use lib.Ieee.{Float, nan, binary64, add, mul, le, isNan}
 use Rattle.real.specs.Any.{anyBelow}
 use Rattle.real.specs.Literals.{nought}
 use Rattle.layout.specs.declared.AcPfLayout.{AcPfLayout}
-use Rattle.layout.specs.Layout.{none}
+use Rattle.layout.specs.Layout.{none, vaCol, vmCol}
 use Rattle.layout.specs.Table.{stores}
 use Rattle.layout.specs.declared.Point.{Point}
 
@@ -21,8 +22,8 @@ movedBy x c alpha w = cond (ltb c none) (add binary64 x (mul binary64 alpha (get
 abbrev pub stepTo : ℕ → AcPfLayout → Point → List Float → Float → Point
 stepTo k l p w alpha =
     record {
-      vm = stores (λ b. movedBy (getD (p .vm) b nan) (getD (l .«vm_of») b 0) alpha w) k (p .vm);
-      va = stores (λ b. movedBy (getD (p .va) b nan) (getD (l .«va_of») b 0) alpha w) k (p .va);
+      vm = stores (λ b. movedBy (getD (p .vm) b nan) (vmCol l b) alpha w) k (p .vm);
+      va = stores (λ b. movedBy (getD (p .va) b nan) (vaCol l b) alpha w) k (p .va);
     }
 
 unfoldable pub stepOf : AcPfLayout → Point → List Float → Float → Point

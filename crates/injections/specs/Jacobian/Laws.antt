@@ -12,7 +12,7 @@ use lib.Ieee.{Float, nan}
 use Rattle.real.specs.Literals.{one}
 use Rattle.complex.specs.declared.Complex.{Complex}
 use Rattle.layout.specs.declared.AcPfLayout.{AcPfLayout}
-use Rattle.layout.specs.Layout.{none}
+use Rattle.layout.specs.Layout.{none, vaCol, vmCol, pRow, qRow}
 use Rattle.linsolve.specs.Linear as Linear
 use Rattle.linsolve.specs.Linear.{added}
 use Rattle.injections.specs.declared.Phasors.{Phasors}
@@ -68,7 +68,7 @@ module _ (y : Triplets) (va : List Float) (s : Phasors) (l : AcPfLayout) (w : Li
 
   pub jacobian-turn : (k : ℕ)
       → jacobianTo (suc k) y va s l w
-      ≡ enteredAll (getD (l .«p_of») (rowOf y k) 0) (getD (l .«q_of») (rowOf y k) 0) (getD (l .«va_of») (colOf y k) 0) (getD (l .«vm_of») (colOf y k) 0) (derivativesAt y va s k) (jacobianTo k y va s l w)
+      ≡ enteredAll (pRow l (rowOf y k)) (qRow l (rowOf y k)) (vaCol l (colOf y k)) (vmCol l (colOf y k)) (derivativesAt y va s k) (jacobianTo k y va s l w)
   unfolding jacobianTo
   jacobian-turn k = refl
 

@@ -1,4 +1,4 @@
--- What the layout answers: rows match columns, a kind comes back, the size, and that the columns are 0 .. dim - 1, each exactly once. Assumes nothing.
+-- What the layout answers: the number at a bus, a kind comes back, the size, and that the columns are 0 .. dim - 1, each exactly once. Assumes nothing.
 use Prim.Native.Nat.{ℕ, zero, suc, _+_, _≤_, _<_}
 use mathlib.Core.Path.{_≡_, refl, sym, _∙_}
 use mathlib.Core.Bool.{Bool, true, false, cond, true≢false}
@@ -8,26 +8,19 @@ use native.Mathlib.Numerals.{add-one}
 use native.Mathlib.Omega.{arith}
 use borrow.Author.Tests.{ne-eqb, ltb-true, ltb-false}
 use lib.Dec.{eqb, ltb}
-use lib.ListN.{getD}
 use Rattle.layout.specs.declared.BusKind.{BusKind}
 use Rattle.layout.specs.declared.BusKind.the-variants.{Slack, Pv, Pq}
 use Rattle.real.specs.Counting.{rising, strictly, once, growth, met}
 use Rattle.layout.specs.Table.Laws.{table-at}
-use Rattle.layout.specs.Layout.{none, angleCol, nextAngle, magnitudeCol, nextMagnitude, kindOf, angleCount, magnitudeCount, angleAt, magnitudeAt, layoutOf, kindIn}
-
--- ---- rows match columns
-
-pub rows-match : (n : ℕ) (kinds : List BusKind) → (layoutOf n kinds .«p_of» ≡ layoutOf n kinds .«va_of») × (layoutOf n kinds .«q_of» ≡ layoutOf n kinds .«vm_of»)
-unfolding layoutOf
-rows-match n kinds = (refl, refl)
+use Rattle.layout.specs.Layout.{none, angleCol, nextAngle, magnitudeCol, nextMagnitude, kindOf, angleCount, magnitudeCount, angleAt, magnitudeAt, layoutOf, vaCol, vmCol, kindIn}
 
 -- ---- what stands at a bus
 
-pub va-at : (n : ℕ) (kinds : List BusKind) (b : ℕ) → b < n → n ≤ 32 → getD (layoutOf n kinds .«va_of») b 0 ≡ angleAt kinds b
+pub va-at : (n : ℕ) (kinds : List BusKind) (b : ℕ) → b < n → n ≤ 32 → vaCol (layoutOf n kinds) b ≡ angleAt kinds b
 unfolding layoutOf
 va-at n kinds b p h = table-at n none (angleAt kinds) b 0 p h
 
-pub vm-at : (n : ℕ) (kinds : List BusKind) (b : ℕ) → b < n → n ≤ 32 → getD (layoutOf n kinds .«vm_of») b 0 ≡ magnitudeAt kinds (angleCount n kinds) b
+pub vm-at : (n : ℕ) (kinds : List BusKind) (b : ℕ) → b < n → n ≤ 32 → vmCol (layoutOf n kinds) b ≡ magnitudeAt kinds (angleCount n kinds) b
 unfolding layoutOf
 vm-at n kinds b p h = table-at n none (magnitudeAt kinds (angleCount n kinds)) b 0 p h
 
@@ -126,10 +119,10 @@ dim-most n kinds h =
 module _ (n : ℕ) (kinds : List BusKind) (few : n ≤ 32) where
   -- c is the angle column of bus b, the magnitude column of bus b
   abbrev pub AngleOf : ℕ → ℕ → Type 0
-  AngleOf c b = (b < n) × (hasAngle (kindOf kinds b) ≡ true) × (getD (layoutOf n kinds .«va_of») b 0 ≡ c)
+  AngleOf c b = (b < n) × (hasAngle (kindOf kinds b) ≡ true) × (vaCol (layoutOf n kinds) b ≡ c)
 
   abbrev pub MagnitudeOf : ℕ → ℕ → Type 0
-  MagnitudeOf c b = (b < n) × (hasMagnitude (kindOf kinds b) ≡ true) × (getD (layoutOf n kinds .«vm_of») b 0 ≡ c)
+  MagnitudeOf c b = (b < n) × (hasMagnitude (kindOf kinds b) ≡ true) × (vmCol (layoutOf n kinds) b ≡ c)
 
   angle-is : (k : BusKind) (c : ℕ) → hasAngle k ≡ true → angleCol k c ≡ c
   angle-is Slack c h = absurd (true≢false (sym h))

@@ -9,7 +9,7 @@ use lib.Ieee.{Float, nan}
 use Rattle.layout.specs.declared.BusKind.{BusKind}
 use Rattle.layout.specs.declared.BusKind.the-variants.{Slack, Pv}
 use Rattle.layout.specs.declared.AcPfLayout.{AcPfLayout}
-use Rattle.layout.specs.Layout.{none, angleCol, magnitudeCol, kindOf, angleCount, magnitudeCount, layoutOf}
+use Rattle.layout.specs.Layout.{none, angleCol, magnitudeCol, kindOf, angleCount, magnitudeCount, layoutOf, pRow, qRow}
 use Rattle.layout.specs.Layout.Laws.{va-at, vm-at}
 use Rattle.layout.specs.Residual.{Powers, missingP, missingQ, atRow, residualTo, residualOf}
 
@@ -20,17 +20,17 @@ lost r row x y (inl e) = rw e
 lost r row x y (inr e) = rw e
 
 pub unread : (k : ℕ) (l : AcPfLayout) (w v : Powers)
-    → ((b : ℕ) → b < k → (getD (l .«p_of») b 0 ≡ none) ⊎ (missingP w b ≡ missingP v b))
-    → ((b : ℕ) → b < k → (getD (l .«q_of») b 0 ≡ none) ⊎ (missingQ w b ≡ missingQ v b))
+    → ((b : ℕ) → b < k → (pRow l b ≡ none) ⊎ (missingP w b ≡ missingP v b))
+    → ((b : ℕ) → b < k → (qRow l b ≡ none) ⊎ (missingQ w b ≡ missingQ v b))
     → residualTo k l w ≡ residualTo k l v
 unfolding residualTo
 unread zero l w v hp hq = refl
 unread (suc k) l w v hp hq =
     rw (
       unread k l w v (λ b h. hp b (omega arith)) (λ b h. hq b (omega arith)),
-      lost (residualTo k l v) (getD (l .«p_of») k 0) _ _ (hp k (omega arith)),
+      lost (residualTo k l v) (pRow l k) _ _ (hp k (omega arith)),
     )
-    (lost (atRow (residualTo k l v) (getD (l .«p_of») k 0) (missingP v k)) (getD (l .«q_of») k 0) _ _ (hq k (omega arith)))
+    (lost (atRow (residualTo k l v) (pRow l k) (missingP v k)) (qRow l k) _ _ (hq k (omega arith)))
 
 -- the kinds that read neither figure, and those that read no reactive one
 abbrev pub NoActive : BusKind → Type 0
@@ -59,18 +59,18 @@ residual-unread n kinds w v few a = unread n (layoutOf n kinds) w v p-row q-row
     magnitude-none k c (inl e) = rw e
     magnitude-none k c (inr e) = rw e
 
-    p-row : (b : ℕ) → b < n → (getD (layoutOf n kinds .«p_of») b 0 ≡ none) ⊎ (missingP w b ≡ missingP v b)
+    p-row : (b : ℕ) → b < n → (pRow (layoutOf n kinds) b ≡ none) ⊎ (missingP w b ≡ missingP v b)
     p-row b h = go (a .active b h)
       where
         go : NoActive (kindOf kinds b) ⊎ ((getD (w .pg) b nan ≡ getD (v .pg) b nan) × (getD (w .pd) b nan ≡ getD (v .pd) b nan))
-            → (getD (layoutOf n kinds .«p_of») b 0 ≡ none) ⊎ (missingP w b ≡ missingP v b)
+            → (pRow (layoutOf n kinds) b ≡ none) ⊎ (missingP w b ≡ missingP v b)
         go (inl e) = inl (va-at n kinds b h few ∙ angle-none (kindOf kinds b) (angleCount b kinds) e)
         go (inr e) = inr (rw (e .0, e .1, a .calc-p))
 
-    q-row : (b : ℕ) → b < n → (getD (layoutOf n kinds .«q_of») b 0 ≡ none) ⊎ (missingQ w b ≡ missingQ v b)
+    q-row : (b : ℕ) → b < n → (qRow (layoutOf n kinds) b ≡ none) ⊎ (missingQ w b ≡ missingQ v b)
     q-row b h = go (a .reactive b h)
       where
         go : NoReactive (kindOf kinds b) ⊎ ((getD (w .qg) b nan ≡ getD (v .qg) b nan) × (getD (w .qd) b nan ≡ getD (v .qd) b nan))
-            → (getD (layoutOf n kinds .«q_of») b 0 ≡ none) ⊎ (missingQ w b ≡ missingQ v b)
+            → (qRow (layoutOf n kinds) b ≡ none) ⊎ (missingQ w b ≡ missingQ v b)
         go (inl e) = inl (vm-at n kinds b h few ∙ magnitude-none (kindOf kinds b) (magnitudeCount b kinds (angleCount n kinds)) e)
         go (inr e) = inr (rw (e .0, e .1, a .calc-q))

@@ -14,7 +14,7 @@ use Rattle.layout.specs.declared.BusKind.the-variants.{Slack, Pv, Pq}
 use Rattle.layout.specs.declared.AcPfLayout.{AcPfLayout}
 use Rattle.layout.specs.declared.Point.{Point}
 use Rattle.layout.specs.Table.Laws.{stores-ext}
-use Rattle.layout.specs.Layout.{none, kindOf, layoutOf}
+use Rattle.layout.specs.Layout.{none, kindOf, layoutOf, vaCol, vmCol}
 use Rattle.layout.specs.Layout.Laws.{va-at, vm-at, dim-counts, dim-most, angle-below, magnitude-below}
 use Rattle.linsolve.specs.declared.Solution.the-variants as Solution
 use Rattle.linsolve.specs.Linear.{Outcome, answerOf, spaceOf}
@@ -49,20 +49,20 @@ Column l c = c < none → c < l .dim
 -- the matrix fits, and the buses' columns are its own
 pub record Inside (l : AcPfLayout) : Type 0 where
   pub small : l .dim ≤ 64
-  pub angle : (b : ℕ) → b < l .n → Column l (getD (l .«va_of») b 0)
-  pub magnitude : (b : ℕ) → b < l .n → Column l (getD (l .«vm_of») b 0)
+  pub angle : (b : ℕ) → b < l .n → Column l (vaCol l b)
+  pub magnitude : (b : ℕ) → b < l .n → Column l (vmCol l b)
 
 -- so it is of every layout of kinds
 pub layout-inside : (n : ℕ) (kinds : List BusKind) → n ≤ 32 → Inside (layoutOf n kinds)
 unfolding layoutOf
 layout-inside n kinds few = record { small = dim-most n kinds few; angle = λ b h. angle b h (kindOf kinds b) refl; magnitude = λ b h. magnitude b h (kindOf kinds b) refl }
   where
-    angle : (b : ℕ) → b < n → (k : BusKind) → kindOf kinds b ≡ k → Column (layoutOf n kinds) (getD (layoutOf n kinds .«va_of») b 0)
+    angle : (b : ℕ) → b < n → (k : BusKind) → kindOf kinds b ≡ k → Column (layoutOf n kinds) (vaCol (layoutOf n kinds) b)
     angle b h Slack e c = absurd (omega (arith, rw e at (va-at n kinds b h few)))
     angle b h Pv e c = omega (arith, dim-counts n kinds, angle-below n kinds few _ b (h, rw e, refl))
     angle b h Pq e c = omega (arith, dim-counts n kinds, angle-below n kinds few _ b (h, rw e, refl))
 
-    magnitude : (b : ℕ) → b < n → (k : BusKind) → kindOf kinds b ≡ k → Column (layoutOf n kinds) (getD (layoutOf n kinds .«vm_of») b 0)
+    magnitude : (b : ℕ) → b < n → (k : BusKind) → kindOf kinds b ≡ k → Column (layoutOf n kinds) (vmCol (layoutOf n kinds) b)
     magnitude b h Slack e c = absurd (omega (arith, rw e at (vm-at n kinds b h few)))
     magnitude b h Pv e c = absurd (omega (arith, rw e at (vm-at n kinds b h few)))
     magnitude b h Pq e c = magnitude-below n kinds few _ b (h, rw e, refl)
@@ -90,8 +90,8 @@ module _ (l : AcPfLayout) (i : Inside l) where
     unfolding stepOf
     step-alike p alpha = λ j.
         record {
-          vm = stores-ext _ _ (l .n) (p .vm) (λ b h. moved-alike (getD (p .vm) b nan) (getD (l .«vm_of») b 0) alpha (i .magnitude b h)) j;
-          va = stores-ext _ _ (l .n) (p .va) (λ b h. moved-alike (getD (p .va) b nan) (getD (l .«va_of») b 0) alpha (i .angle b h)) j;
+          vm = stores-ext _ _ (l .n) (p .vm) (λ b h. moved-alike (getD (p .vm) b nan) (vmCol l b) alpha (i .magnitude b h)) j;
+          va = stores-ext _ _ (l .n) (p .va) (λ b h. moved-alike (getD (p .va) b nan) (vaCol l b) alpha (i .angle b h)) j;
         }
 
     tries-alike : (k : ℕ) (at : Point → Measured) (p : Point) (m : Measured) (alpha : Float) → triesFrom k at l p m w alpha ≡ triesFrom k at l p m v alpha

@@ -6,6 +6,7 @@ use native.Mathlib.Numerals.{add-one}
 use lib.ListN.{getD, set}
 use lib.Ieee.{Float, nan}
 use Rattle.layout.specs.declared.AcPfLayout.{AcPfLayout}
+use Rattle.layout.specs.Layout.{vaCol, vmCol}
 use Rattle.layout.specs.Table.{stores}
 use Rattle.layout.specs.declared.Point.{Point}
 use Rattle.newton.specs.Step.{movedBy, stepTo, stepOf}
@@ -15,8 +16,8 @@ module _ (l : AcPfLayout) (p : Point) (w : List Float) (alpha : Float) where
   unfolding stores
   step-begin = refl
 
-  pub step-turn : (b : ℕ) (t : Point) (m a : Float) → t ≡ stepTo b l p w alpha → a ≡ movedBy (getD (p .va) b nan) (getD (l .«va_of») b 0) alpha w
-      → m ≡ movedBy (getD (p .vm) b nan) (getD (l .«vm_of») b 0) alpha w → record { vm = set (t .vm) b m; va = set (t .va) b a } ≡ stepTo (b + 1) l p w alpha
+  pub step-turn : (b : ℕ) (t : Point) (m a : Float) → t ≡ stepTo b l p w alpha → a ≡ movedBy (getD (p .va) b nan) (vaCol l b) alpha w
+      → m ≡ movedBy (getD (p .vm) b nan) (vmCol l b) alpha w → record { vm = set (t .vm) b m; va = set (t .va) b a } ≡ stepTo (b + 1) l p w alpha
   unfolding stores
   step-turn b t m a et ea em = rw (add-one, et, ea, em)
 

@@ -1,0 +1,64 @@
+-- The layout as it was before request 4 of 02: rows had tables of their own beside the columns'. No code has it any more. It is kept to say that the
+-- layout of two tables answers every question as this one did (`same-answers`), and that whatever reads a layout has what it had.
+pub mod Laws
+use Prim.Native.Nat.{ℕ, zero, suc}
+use mathlib.Core.Bool.{cond}
+use mathlib.Core.List.{List}
+use lib.Dec.{eqb}
+use lib.ListN.{getD, replicate}
+use lib.Ieee.{Float}
+use Rattle.real.specs.Literals.{nought}
+use Rattle.layout.specs.declared.BusKind.{BusKind}
+use Rattle.layout.specs.declared.BusKind.the-variants.{Slack, Pv, Pq}
+use Rattle.layout.specs.Table.{table}
+use Rattle.layout.specs.Layout.{none, angleAt, angleCount, magnitudeAt, magnitudeCount}
+use Rattle.layout.specs.Residual.{Powers, missingP, missingQ, atRow}
+
+pub record FourTables : Type 0 where
+  pub n : ℕ
+  pub «va_of» : List ℕ
+  pub «vm_of» : List ℕ
+  pub «p_of» : List ℕ
+  pub «q_of» : List ℕ
+  pub dim : ℕ
+
+-- the rows are copies of the columns
+unfoldable pub fourTablesOf : ℕ → List BusKind → FourTables
+fourTablesOf n kinds =
+    let angles = table n none (angleAt kinds) in
+    let magnitudes = table n none (magnitudeAt kinds (angleCount n kinds)) in
+    record {
+      n = n;
+      «va_of» = angles;
+      «vm_of» = magnitudes;
+      «p_of» = angles;
+      «q_of» = magnitudes;
+      dim = magnitudeCount n kinds (angleCount n kinds);
+    }
+
+-- ---- what was asked of it, beside its size
+
+abbrev pub vaCol : FourTables → ℕ → ℕ
+vaCol l b = getD (l .«va_of») b 0
+
+abbrev pub vmCol : FourTables → ℕ → ℕ
+vmCol l b = getD (l .«vm_of») b 0
+
+abbrev pub pRow : FourTables → ℕ → ℕ
+pRow l b = getD (l .«p_of») b 0
+
+abbrev pub qRow : FourTables → ℕ → ℕ
+qRow l b = getD (l .«q_of») b 0
+
+abbrev pub kindIn : FourTables → ℕ → BusKind
+kindIn l b = cond (eqb (vaCol l b) none) Slack (cond (eqb (vmCol l b) none) Pv Pq)
+
+-- ---- the residual that was read off it
+
+unfoldable pub residualTo : ℕ → FourTables → Powers → List Float
+unfolding atRow
+residualTo zero l w = replicate 64 nought
+residualTo (suc k) l w = atRow (atRow (residualTo k l w) (pRow l k) (missingP w k)) (qRow l k) (missingQ w k)
+
+abbrev pub residualOf : FourTables → Powers → List Float
+residualOf l w = residualTo (l .n) l w
