@@ -136,7 +136,7 @@ fn answer_first(
     let mut y_col = [0usize; 256];
     let mut y_re = [0.0; 256];
     let mut y_im = [0.0; 256];
-    let read = case_text::read_triplets(
+    let read = editions::read_triplets(
         text,
         &mut kind,
         &mut vm_set,
@@ -325,7 +325,7 @@ fn answer_second(
     let mut tap = [0.0; 64];
     let mut shift = [0.0; 64];
     let mut sw = [0.0; 64];
-    let read = case_text::read_branches(
+    let read = editions::read_branches(
         text,
         &mut kind,
         &mut vm_set,

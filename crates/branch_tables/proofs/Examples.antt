@@ -22,7 +22,7 @@ use Rattle.network.specs.Missing.{inColumn, inEnds, missingIn}
 use Rattle.trig.specs.Sine.{sinCosOf}
 use Rattle.islands.specs.Islands.{groupOf, lowest, tally, labelsOf}
 use Rattle.layout.specs.Kinds.{kindsOf}
-use Rattle.layout.specs.Layout.{angleCount, magnitudeCount, layoutOf}
+use Rattle.layout.specs.Layout.{countTo, layoutOf}
 use Rattle.layout.specs.Limits.{sumAt, limitsOf}
 use Rattle.layout.specs.Table.{stores}
 use Rattle.injections.specs.Injections.{voltagesOf, currentsTo, phasorsOf, injectedOf}
@@ -63,7 +63,7 @@ rows o =
 
 pub joined-solved : (o : Outs) (w : List Float) → roomy 2 (lengthsIn o) (length w) ≡ true
     → solveBranchesOf Flat (joined 1 (double 1)) o w ≡ answer (ok 0 (double 0)) (rows o) (zeros w)
-unfolding normOf absolute sinCosOf groupOf lowest tally each labelsOf anyBelow kindsOf angleCount magnitudeCount layoutOf sumAt limitsOf stores voltagesOf currentsTo phasorsOf injectedOf y-ff y-ft y-tf y-tt listed diagonal ybusOf faultAt valuesCounted measuredOf stepsFrom newtonOf moveOf movesOf pinned keptKinds scheduleOf lettersOf roundOf roundsFrom qlimOf laterRow referencesOf flatOf acPfOf nthStart betterOf tryOf searchFrom searchOf both firstBelow inColumn inEnds missingIn counted withAnswer checkedOf runOf checkedBranchesOf solveBranchesOf ofInt ofBits add sub mul div neg lt le isNan
+unfolding normOf absolute sinCosOf groupOf lowest tally each labelsOf anyBelow kindsOf countTo layoutOf sumAt limitsOf stores voltagesOf currentsTo phasorsOf injectedOf y-ff y-ft y-tf y-tt listed diagonal ybusOf faultAt valuesCounted measuredOf stepsFrom newtonOf moveOf movesOf pinned keptKinds scheduleOf lettersOf roundOf roundsFrom qlimOf laterRow referencesOf flatOf acPfOf nthStart betterOf tryOf searchFrom searchOf both firstBelow inColumn inEnds missingIn counted withAnswer checkedOf runOf checkedBranchesOf solveBranchesOf ofInt ofBits add sub mul div neg lt le isNan
 joined-solved o w h =
     ap (λ (r : Bool). afterCheck Flat (builtNetwork (joined 1 (double 1))) o w (thenFault (cond r Checked.Ready (Checked.Refused Room)) Fault.Nothing)) h
 

@@ -5,15 +5,15 @@ use lib.ListN.{take, replicate}
 use Rattle.layout.specs.declared.BusKind.{BusKind}
 use Rattle.layout.specs.declared.BusKind.the-variants.{Slack, Pv, Pq}
 use Rattle.layout.specs.Table.{stores}
-use Rattle.layout.specs.Layout.{none, angleCount, magnitudeCount, layoutOf}
+use Rattle.layout.specs.Layout.{none, countTo, layoutOf}
 
 abbrev pub svqq : List BusKind
 svqq = Slack ∷ Pv ∷ Pq ∷ Pq ∷ replicate 28 Pq
 
 pub angle-columns-of-svqq : take 4 (layoutOf 4 svqq .«va_of») ≡ none ∷ 0 ∷ 1 ∷ 2 ∷ []
-unfolding layoutOf stores angleCount
+unfolding layoutOf stores countTo
 angle-columns-of-svqq = refl
 
 pub magnitude-columns-of-svqq : take 4 (layoutOf 4 svqq .«vm_of») ≡ none ∷ none ∷ 3 ∷ 4 ∷ []
-unfolding layoutOf stores angleCount magnitudeCount
+unfolding layoutOf stores countTo
 magnitude-columns-of-svqq = refl

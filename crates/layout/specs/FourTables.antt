@@ -1,7 +1,7 @@
 -- The layout as it was before request 4 of 02: rows had tables of their own beside the columns'. No code has it any more. It is kept to say that the
 -- layout of two tables answers every question as this one did (`same-answers`), and that whatever reads a layout has what it had.
 pub mod Laws
-use Prim.Native.Nat.{ℕ, zero, suc}
+use Prim.Native.Nat.{ℕ, zero, suc, _+_}
 use mathlib.Core.Bool.{cond}
 use mathlib.Core.List.{List}
 use lib.Dec.{eqb}
@@ -11,8 +11,52 @@ use Rattle.real.specs.Literals.{nought}
 use Rattle.layout.specs.declared.BusKind.{BusKind}
 use Rattle.layout.specs.declared.BusKind.the-variants.{Slack, Pv, Pq}
 use Rattle.layout.specs.Table.{table}
-use Rattle.layout.specs.Layout.{none, angleAt, angleCount, magnitudeAt, magnitudeCount}
+use Rattle.layout.specs.Layout.{none, kindOf}
 use Rattle.layout.specs.Residual.{Powers, missingP, missingQ, atRow}
+
+-- ---- its numbers
+
+-- a bus of this kind has an angle column, c, or none; and how many it adds to those before it
+abbrev pub angleCol : BusKind → ℕ → ℕ
+angleCol Slack c = none
+angleCol Pv c = c
+angleCol Pq c = c
+
+abbrev pub nextAngle : BusKind → ℕ → ℕ
+nextAngle Slack c = c
+nextAngle Pv c = c + 1
+nextAngle Pq c = c + 1
+
+-- the same for a magnitude column
+abbrev pub magnitudeCol : BusKind → ℕ → ℕ
+magnitudeCol Slack c = none
+magnitudeCol Pv c = none
+magnitudeCol Pq c = c
+
+abbrev pub nextMagnitude : BusKind → ℕ → ℕ
+nextMagnitude Slack c = c
+nextMagnitude Pv c = c
+nextMagnitude Pq c = c + 1
+
+-- how many of the first k buses are no slack
+unfoldable pub angleCount : ℕ → List BusKind → ℕ
+angleCount zero kinds = 0
+angleCount (suc k) kinds = nextAngle (kindOf kinds k) (angleCount k kinds)
+
+-- first, and one more for each Q bus among the first k
+unfoldable pub magnitudeCount : ℕ → List BusKind → ℕ → ℕ
+magnitudeCount zero kinds first = first
+magnitudeCount (suc k) kinds first = nextMagnitude (kindOf kinds k) (magnitudeCount k kinds first)
+
+-- a bus's angle column is the number of non-slack buses before it
+abbrev pub angleAt : List BusKind → ℕ → ℕ
+angleAt kinds b = angleCol (kindOf kinds b) (angleCount b kinds)
+
+-- a Q bus's magnitude column is the number of all angles, and of Q buses before it
+abbrev pub magnitudeAt : List BusKind → ℕ → ℕ → ℕ
+magnitudeAt kinds first b = magnitudeCol (kindOf kinds b) (magnitudeCount b kinds first)
+
+-- ---- its tables
 
 pub record FourTables : Type 0 where
   pub n : ℕ

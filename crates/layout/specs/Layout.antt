@@ -1,12 +1,14 @@
 -- 01, "Kinds": the columns are the angles of non-slack buses in bus order, then the magnitudes of Q buses. Rows match.
 pub mod Laws
 use Prim.Native.Nat.{ℕ, zero, suc, _+_}
-use mathlib.Core.Bool.{cond}
+use mathlib.Core.Bool.{Bool, true, false, cond}
 use mathlib.Core.List.{List}
 use lib.Dec.{eqb}
 use lib.ListN.{getD}
 use Rattle.layout.specs.declared.BusKind.{BusKind}
 use Rattle.layout.specs.declared.BusKind.the-variants.{Slack, Pv, Pq}
+use Rattle.layout.specs.declared.Unknown.{Unknown}
+use Rattle.layout.specs.declared.Unknown.the-variants.{Angle, Magnitude}
 use Rattle.layout.specs.declared.AcPfLayout.{AcPfLayout}
 use Rattle.layout.specs.Table.{table}
 
@@ -14,56 +16,49 @@ use Rattle.layout.specs.Table.{table}
 abbrev pub none : ℕ
 none = 64
 
--- a bus of this kind has an angle column, c, or none; and how many it adds to those before it
-abbrev pub angleCol : BusKind → ℕ → ℕ
-angleCol Slack c = none
-angleCol Pv c = c
-angleCol Pq c = c
+abbrev pub isAngle : Unknown → Bool
+isAngle Angle = true
+isAngle Magnitude = false
 
-abbrev pub nextAngle : BusKind → ℕ → ℕ
-nextAngle Slack c = c
-nextAngle Pv c = c + 1
-nextAngle Pq c = c + 1
+-- at a slack bus nothing is unknown, at a V bus the angle, at a Q bus both
+abbrev pub has : Unknown → BusKind → Bool
+has u Slack = false
+has u Pv = isAngle u
+has u Pq = true
 
--- the same for a magnitude column
-abbrev pub magnitudeCol : BusKind → ℕ → ℕ
-magnitudeCol Slack c = none
-magnitudeCol Pv c = none
-magnitudeCol Pq c = c
+-- the number of what is unknown; and the next one
+abbrev pub number : Bool → ℕ → ℕ
+number true c = c
+number false c = none
 
-abbrev pub nextMagnitude : BusKind → ℕ → ℕ
-nextMagnitude Slack c = c
-nextMagnitude Pv c = c
-nextMagnitude Pq c = c + 1
+abbrev pub after : Bool → ℕ → ℕ
+after true c = c + 1
+after false c = c
 
 abbrev pub kindOf : List BusKind → ℕ → BusKind
 kindOf kinds b = getD kinds b Slack
 
--- how many of the first k buses are no slack
-unfoldable pub angleCount : ℕ → List BusKind → ℕ
-angleCount zero kinds = 0
-angleCount (suc k) kinds = nextAngle (kindOf kinds k) (angleCount k kinds)
+-- first, and one more for each of the first k buses that has this unknown
+unfoldable pub countTo : Unknown → List BusKind → ℕ → ℕ → ℕ
+countTo u kinds first zero = first
+countTo u kinds first (suc k) = after (has u (kindOf kinds k)) (countTo u kinds first k)
 
--- first, and one more for each Q bus among the first k
-unfoldable pub magnitudeCount : ℕ → List BusKind → ℕ → ℕ
-magnitudeCount zero kinds first = first
-magnitudeCount (suc k) kinds first = nextMagnitude (kindOf kinds k) (magnitudeCount k kinds first)
+-- a bus's own number is the count of those before it
+abbrev pub numberAt : Unknown → List BusKind → ℕ → ℕ → ℕ
+numberAt u kinds first b = number (has u (kindOf kinds b)) (countTo u kinds first b)
 
--- a bus's angle column is the number of non-slack buses before it
-abbrev pub angleAt : List BusKind → ℕ → ℕ
-angleAt kinds b = angleCol (kindOf kinds b) (angleCount b kinds)
-
--- a Q bus's magnitude column is the number of all angles, and of Q buses before it
-abbrev pub magnitudeAt : List BusKind → ℕ → ℕ → ℕ
-magnitudeAt kinds first b = magnitudeCol (kindOf kinds b) (magnitudeCount b kinds first)
+-- "angles of non-slack buses in bus order, then magnitudes of Q buses"
+abbrev pub firstOf : Unknown → ℕ → List BusKind → ℕ
+firstOf Angle n kinds = 0
+firstOf Magnitude n kinds = countTo Angle kinds 0 n
 
 unfoldable pub layoutOf : ℕ → List BusKind → AcPfLayout
 layoutOf n kinds =
     record {
       n = n;
-      «va_of» = table n none (angleAt kinds);
-      «vm_of» = table n none (magnitudeAt kinds (angleCount n kinds));
-      dim = magnitudeCount n kinds (angleCount n kinds);
+      «va_of» = table n none (numberAt Angle kinds (firstOf Angle n kinds));
+      «vm_of» = table n none (numberAt Magnitude kinds (firstOf Magnitude n kinds));
+      dim = countTo Magnitude kinds (firstOf Magnitude n kinds) n;
     }
 
 -- ---- what is asked of it, beside its size

@@ -5,7 +5,7 @@ ghost use lib.ListN.{length, getD};
 ghost use Rattle.network.specs.Below.{Below};
 ghost use Rattle.layout.specs.Table.{table};
 ghost use Rattle.layout.specs.Kinds.{flagKind, kindsOf};
-ghost use Rattle.layout.specs.Layout.{none, angleCol, nextAngle, angleAt, angleCount, magnitudeCol, nextMagnitude, magnitudeAt, magnitudeCount, layoutOf, vaCol, vmCol, pRow, qRow, kindIn};
+ghost use Rattle.layout.specs.Layout.{none, isAngle, has, number, after, countTo, numberAt, layoutOf, vaCol, vmCol, pRow, qRow, kindIn};
 ghost use Rattle.layout.specs.Residual.{powers, missing, atRow, residualOf};
 ghost use Rattle.layout.specs.Limits.{limitsOf};
 ghost use Rattle.layout.specs.declared.BusKind.the-variants.{Pq};
@@ -15,6 +15,12 @@ pub enum BusKind {
     Slack,
     Pv,
     Pq,
+}
+
+// What may be unknown of a bus.
+pub enum Unknown {
+    Angle,
+    Magnitude,
 }
 
 // A missing column or row.
@@ -81,78 +87,55 @@ pub fn default_kinds(n: usize, kind: &[u8], slacks: &[usize]) -> [BusKind; 32]
 
 // ---- columns
 
-fn angle_col(k: BusKind, col: usize) -> usize
-    ensures { λ r. ⌜ r ≡ angleCol k col ⌝ }
+fn is_angle(u: Unknown) -> bool
+    ensures { λ r. ⌜ r ≡ isAngle u ⌝ }
 {
-    match k {
-        BusKind::Slack => NONE,
-        BusKind::Pv => col,
-        BusKind::Pq => col,
+    match u {
+        Unknown::Angle => true,
+        Unknown::Magnitude => false,
     }
 }
 
-fn next_angle(k: BusKind, col: usize) -> usize
+// Whether it has to be found at a bus of this kind.
+fn has(u: Unknown, k: BusKind) -> bool
+    ensures { λ r. ⌜ r ≡ has u k ⌝ }
+{
+    match k {
+        BusKind::Slack => false,
+        BusKind::Pv => is_angle(u),
+        BusKind::Pq => true,
+    }
+}
+
+fn number(has: bool, col: usize) -> usize
+    ensures { λ r. ⌜ r ≡ number has col ⌝ }
+{
+    if has { col } else { NONE }
+}
+
+fn after(has: bool, col: usize) -> usize
     requires { ⌜ col ≤ 64 ⌝ }
-    ensures { λ r. ⌜ (r ≡ nextAngle k col) × (r ≤ col + 1) ⌝ }
+    ensures { λ r. ⌜ (r ≡ after has col) × (r ≤ col + 1) ⌝ }
 {
-    match k {
-        BusKind::Slack => col,
-        BusKind::Pv => col + 1,
-        BusKind::Pq => col + 1,
-    }
+    if has { col + 1 } else { col }
 }
 
-fn magnitude_col(k: BusKind, col: usize) -> usize
-    ensures { λ r. ⌜ r ≡ magnitudeCol k col ⌝ }
-{
-    match k {
-        BusKind::Slack => NONE,
-        BusKind::Pv => NONE,
-        BusKind::Pq => col,
-    }
-}
-
-fn next_magnitude(k: BusKind, col: usize) -> usize
-    requires { ⌜ col ≤ 64 ⌝ }
-    ensures { λ r. ⌜ (r ≡ nextMagnitude k col) × (r ≤ col + 1) ⌝ }
-{
-    match k {
-        BusKind::Slack => col,
-        BusKind::Pv => col,
-        BusKind::Pq => col + 1,
-    }
-}
-
-// The columns of one sort, and the first after them.
+// The columns of one unknown, and the first after them.
 struct Columns {
     of: [usize; 32],
     next: usize,
 }
 
-fn angle_columns(n: usize, kinds: [BusKind; 32]) -> Columns
-    requires { ⌜ n ≤ 32 ⌝ }
-    ensures { λ r. ⌜ (r .of ≡ table n none (angleAt kinds)) × (r .next ≡ angleCount n kinds) × (r .next ≤ n) ⌝ }
-{
-    let mut of = [NONE; 32];
-    let mut col = 0usize;
-    for b in 0..n {
-        let k = kinds[b];
-        of[b] = angle_col(k, col);
-        col = next_angle(k, col);
-    }
-    Columns { of, next: col }
-}
-
-fn magnitude_columns(n: usize, kinds: [BusKind; 32], first: usize) -> Columns
+fn numbers(u: Unknown, n: usize, kinds: [BusKind; 32], first: usize) -> Columns
     requires { ⌜ (n ≤ 32) × (first ≤ 32) ⌝ }
-    ensures { λ r. ⌜ (r .of ≡ table n none (magnitudeAt kinds first)) × (r .next ≡ magnitudeCount n kinds first) ⌝ }
+    ensures { λ r. ⌜ (r .of ≡ table n none (numberAt u kinds first)) × (r .next ≡ countTo u kinds first n) × (r .next ≤ first + n) ⌝ }
 {
     let mut of = [NONE; 32];
     let mut col = first;
     for b in 0..n {
-        let k = kinds[b];
-        of[b] = magnitude_col(k, col);
-        col = next_magnitude(k, col);
+        let h = has(u, kinds[b]);
+        of[b] = number(h, col);
+        col = after(h, col);
     }
     Columns { of, next: col }
 }
@@ -181,8 +164,8 @@ impl AcPfLayout {
         requires { ⌜ n ≤ 32 ⌝ }
         ensures { λ r. ⌜ r ≡ layoutOf n kinds ⌝ }
     {
-        let a = angle_columns(n, kinds);
-        let m = magnitude_columns(n, kinds, a.next);
+        let a = numbers(Unknown::Angle, n, kinds, 0);
+        let m = numbers(Unknown::Magnitude, n, kinds, a.next);
         let va_of = a.of;
         let vm_of = m.of;
         AcPfLayout {

@@ -63,7 +63,7 @@ pub fn read_case(
 {
     let x = trailer::edition_of(text);
     match x {
-        Edition::First => case_text::read_triplets(
+        Edition::First => editions::read_triplets(
             text,
             kind,
             vm_set,
@@ -85,7 +85,7 @@ pub fn read_case(
             y_re,
             y_im,
         ),
-        Edition::Second => case_text::read_branches(
+        Edition::Second => editions::read_branches(
             text,
             kind,
             vm_set,

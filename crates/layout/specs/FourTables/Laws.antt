@@ -3,14 +3,60 @@
 use Prim.Native.Nat.{ℕ, zero, suc}
 use mathlib.Core.Path.{_≡_, refl, ap, _∙_}
 use mathlib.Core.List.{List}
+use lib.ListN.{getD, replicate}
 use lib.Ieee.{Float}
 use Rattle.layout.specs.declared.BusKind.{BusKind}
+use Rattle.layout.specs.declared.BusKind.the-variants.{Slack, Pv, Pq}
+use Rattle.layout.specs.declared.Unknown.the-variants.{Angle, Magnitude}
 use Rattle.layout.specs.declared.AcPfLayout.{AcPfLayout}
-use Rattle.layout.specs.Layout.{layoutOf, vaCol, vmCol, pRow, qRow, kindIn}
+use Rattle.layout.specs.Table.{table}
+use Rattle.layout.specs.Table.Laws.{stores-ext}
+use Rattle.layout.specs.Layout.{none, has, number, after, kindOf, countTo, numberAt, firstOf, layoutOf, vaCol, vmCol, pRow, qRow, kindIn}
 use Rattle.layout.specs.Residual as Two
 use Rattle.layout.specs.Residual.{Powers, missingP, missingQ, atRow}
 use Rattle.layout.specs.FourTables as Four
-use Rattle.layout.specs.FourTables.{FourTables, fourTablesOf}
+use Rattle.layout.specs.FourTables.{angleCol, nextAngle, magnitudeCol, nextMagnitude, angleCount, magnitudeCount, angleAt, magnitudeAt, FourTables, fourTablesOf}
+
+-- ---- the same numbers
+
+angle-number : (k : BusKind) (c : ℕ) → number (has Angle k) c ≡ angleCol k c
+angle-number Slack c = refl
+angle-number Pv c = refl
+angle-number Pq c = refl
+
+magnitude-number : (k : BusKind) (c : ℕ) → number (has Magnitude k) c ≡ magnitudeCol k c
+magnitude-number Slack c = refl
+magnitude-number Pv c = refl
+magnitude-number Pq c = refl
+
+angle-after : (k : BusKind) (c : ℕ) → after (has Angle k) c ≡ nextAngle k c
+angle-after Slack c = refl
+angle-after Pv c = refl
+angle-after Pq c = refl
+
+magnitude-after : (k : BusKind) (c : ℕ) → after (has Magnitude k) c ≡ nextMagnitude k c
+magnitude-after Slack c = refl
+magnitude-after Pv c = refl
+magnitude-after Pq c = refl
+
+module _ (kinds : List BusKind) where
+  angles : (k : ℕ) → countTo Angle kinds 0 k ≡ angleCount k kinds
+  unfolding countTo angleCount
+  angles zero = refl
+  angles (suc k) = angle-after (kindOf kinds k) _ ∙ ap (nextAngle (kindOf kinds k)) (angles k)
+
+  magnitudes : (first k : ℕ) → countTo Magnitude kinds first k ≡ magnitudeCount k kinds first
+  unfolding countTo magnitudeCount
+  magnitudes first zero = refl
+  magnitudes first (suc k) = magnitude-after (kindOf kinds k) _ ∙ ap (nextMagnitude (kindOf kinds k)) (magnitudes first k)
+
+  angle-table : (n : ℕ) → table n none (numberAt Angle kinds 0) ≡ table n none (angleAt kinds)
+  angle-table n = stores-ext _ _ n (replicate 32 none) (λ b h. angle-number (kindOf kinds b) _ ∙ ap (angleCol (kindOf kinds b)) (angles b))
+
+  magnitude-table : (n first : ℕ) → table n none (numberAt Magnitude kinds first) ≡ table n none (magnitudeAt kinds first)
+  magnitude-table n first = stores-ext _ _ n (replicate 32 none) (λ b h. magnitude-number (kindOf kinds b) _ ∙ ap (magnitudeCol (kindOf kinds b)) (magnitudes first b))
+
+-- ---- the same answers
 
 -- the questions are the methods of `AcPfLayout`; each answer here is what the method's contract says
 pub record SameAnswers (l : AcPfLayout) (o : FourTables) : Type 0 where
@@ -28,13 +74,19 @@ unfolding layoutOf fourTablesOf
 same-answers n kinds =
     record {
       buses = refl;
-      size = refl;
-      va-col = λ b. refl;
-      vm-col = λ b. refl;
-      p-row = λ b. refl;
-      q-row = λ b. refl;
-      kind = λ b. refl;
+      size = magnitudes kinds _ n ∙ ap (magnitudeCount n kinds) (angles kinds n);
+      va-col = va;
+      vm-col = vm;
+      p-row = va;
+      q-row = vm;
+      kind = λ b. rw (va b, vm b);
     }
+  where
+    va : (b : ℕ) → vaCol (layoutOf n kinds) b ≡ Four.vaCol (fourTablesOf n kinds) b
+    va b = rw (angle-table kinds n)
+
+    vm : (b : ℕ) → vmCol (layoutOf n kinds) b ≡ Four.vmCol (fourTablesOf n kinds) b
+    vm b = rw (magnitude-table kinds n (firstOf Magnitude n kinds), angles kinds n)
 
 module _ (l : AcPfLayout) (o : FourTables) (same : SameAnswers l o) (w : Powers) where
   residual-to : (k : ℕ) → Two.residualTo k l w ≡ Four.residualTo k o w

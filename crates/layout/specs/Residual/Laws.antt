@@ -1,6 +1,6 @@
 -- Demand 3 at this level: a residual does not read a figure of a bus that has no row for it. Assumes nothing.
 use Prim.Native.Nat.{ℕ, zero, suc, _≤_, _<_}
-use mathlib.Core.Path.{_≡_, refl, _∙_}
+use mathlib.Core.Path.{_≡_, refl}
 use mathlib.Core.List.{List}
 use mathlib.Core.Logic.{_⊎_, inl, inr}
 use native.Mathlib.Omega.{arith}
@@ -9,8 +9,9 @@ use lib.Ieee.{Float, nan}
 use Rattle.layout.specs.declared.BusKind.{BusKind}
 use Rattle.layout.specs.declared.BusKind.the-variants.{Slack, Pv}
 use Rattle.layout.specs.declared.AcPfLayout.{AcPfLayout}
-use Rattle.layout.specs.Layout.{none, angleCol, magnitudeCol, kindOf, angleCount, magnitudeCount, layoutOf, pRow, qRow}
-use Rattle.layout.specs.Layout.Laws.{va-at, vm-at}
+use Rattle.layout.specs.declared.Unknown.the-variants.{Angle, Magnitude}
+use Rattle.layout.specs.Layout.{none, kindOf, layoutOf, pRow, qRow}
+use Rattle.layout.specs.Layout.Laws.{column-none}
 use Rattle.layout.specs.Residual.{Powers, missingP, missingQ, atRow, residualTo, residualOf}
 
 -- what is stored at a missing row is lost
@@ -52,19 +53,12 @@ pub residual-unread : (n : ℕ) (kinds : List BusKind) (w v : Powers) → n ≤ 
 unfolding layoutOf
 residual-unread n kinds w v few a = unread n (layoutOf n kinds) w v p-row q-row
   where
-    angle-none : (k : BusKind) (c : ℕ) → k ≡ Slack → angleCol k c ≡ none
-    angle-none k c e = rw e
-
-    magnitude-none : (k : BusKind) (c : ℕ) → NoReactive k → magnitudeCol k c ≡ none
-    magnitude-none k c (inl e) = rw e
-    magnitude-none k c (inr e) = rw e
-
     p-row : (b : ℕ) → b < n → (pRow (layoutOf n kinds) b ≡ none) ⊎ (missingP w b ≡ missingP v b)
     p-row b h = go (a .active b h)
       where
         go : NoActive (kindOf kinds b) ⊎ ((getD (w .pg) b nan ≡ getD (v .pg) b nan) × (getD (w .pd) b nan ≡ getD (v .pd) b nan))
             → (pRow (layoutOf n kinds) b ≡ none) ⊎ (missingP w b ≡ missingP v b)
-        go (inl e) = inl (va-at n kinds b h few ∙ angle-none (kindOf kinds b) (angleCount b kinds) e)
+        go (inl e) = inl (column-none Angle n kinds b h few (rw e))
         go (inr e) = inr (rw (e .0, e .1, a .calc-p))
 
     q-row : (b : ℕ) → b < n → (qRow (layoutOf n kinds) b ≡ none) ⊎ (missingQ w b ≡ missingQ v b)
@@ -72,5 +66,6 @@ residual-unread n kinds w v few a = unread n (layoutOf n kinds) w v p-row q-row
       where
         go : NoReactive (kindOf kinds b) ⊎ ((getD (w .qg) b nan ≡ getD (v .qg) b nan) × (getD (w .qd) b nan ≡ getD (v .qd) b nan))
             → (qRow (layoutOf n kinds) b ≡ none) ⊎ (missingQ w b ≡ missingQ v b)
-        go (inl e) = inl (vm-at n kinds b h few ∙ magnitude-none (kindOf kinds b) (magnitudeCount b kinds (angleCount n kinds)) e)
+        go (inl (inl e)) = inl (column-none Magnitude n kinds b h few (rw e))
+        go (inl (inr e)) = inl (column-none Magnitude n kinds b h few (rw e))
         go (inr e) = inr (rw (e .0, e .1, a .calc-q))

@@ -10,12 +10,12 @@ use lib.ListN.{getD}
 use lib.Ieee.{Float, nan, binary64, add, mul, lt}
 use Rattle.real.specs.Literals.{one, half, tolerance}
 use Rattle.layout.specs.declared.BusKind.{BusKind}
-use Rattle.layout.specs.declared.BusKind.the-variants.{Slack, Pv, Pq}
+use Rattle.layout.specs.declared.Unknown.the-variants.{Angle, Magnitude}
 use Rattle.layout.specs.declared.AcPfLayout.{AcPfLayout}
 use Rattle.layout.specs.declared.Point.{Point}
 use Rattle.layout.specs.Table.Laws.{stores-ext}
-use Rattle.layout.specs.Layout.{none, kindOf, layoutOf, vaCol, vmCol}
-use Rattle.layout.specs.Layout.Laws.{va-at, vm-at, dim-counts, dim-most, angle-below, magnitude-below}
+use Rattle.layout.specs.Layout.{none, layoutOf, vaCol, vmCol}
+use Rattle.layout.specs.Layout.Laws.{dim-most, column-inside}
 use Rattle.linsolve.specs.declared.Solution.the-variants as Solution
 use Rattle.linsolve.specs.Linear.{Outcome, answerOf, spaceOf}
 use Rattle.linsolve.specs.Linear.Space as Linear
@@ -55,17 +55,7 @@ pub record Inside (l : AcPfLayout) : Type 0 where
 -- so it is of every layout of kinds
 pub layout-inside : (n : ℕ) (kinds : List BusKind) → n ≤ 32 → Inside (layoutOf n kinds)
 unfolding layoutOf
-layout-inside n kinds few = record { small = dim-most n kinds few; angle = λ b h. angle b h (kindOf kinds b) refl; magnitude = λ b h. magnitude b h (kindOf kinds b) refl }
-  where
-    angle : (b : ℕ) → b < n → (k : BusKind) → kindOf kinds b ≡ k → Column (layoutOf n kinds) (vaCol (layoutOf n kinds) b)
-    angle b h Slack e c = absurd (omega (arith, rw e at (va-at n kinds b h few)))
-    angle b h Pv e c = omega (arith, dim-counts n kinds, angle-below n kinds few _ b (h, rw e, refl))
-    angle b h Pq e c = omega (arith, dim-counts n kinds, angle-below n kinds few _ b (h, rw e, refl))
-
-    magnitude : (b : ℕ) → b < n → (k : BusKind) → kindOf kinds b ≡ k → Column (layoutOf n kinds) (vmCol (layoutOf n kinds) b)
-    magnitude b h Slack e c = absurd (omega (arith, rw e at (vm-at n kinds b h few)))
-    magnitude b h Pv e c = absurd (omega (arith, rw e at (vm-at n kinds b h few)))
-    magnitude b h Pq e c = magnitude-below n kinds few _ b (h, rw e, refl)
+layout-inside n kinds few = record { small = dim-most n kinds few; angle = column-inside n kinds few Angle; magnitude = column-inside n kinds few Magnitude }
 
 module _ (l : AcPfLayout) (i : Inside l) where
   -- ---- the direction

@@ -7,9 +7,9 @@ use Rattle.layout.proofs.AcPfLayout.with_kinds.Tie as tie
 returns : tie.Need-returns
 unfolding layoutOf
 returns c =
-    let magnitude-columns = c .before .before in
-    let angle-columns = magnitude-columns .before in
-    simp (angle-columns .angle-columns .ensures .0, magnitude-columns .magnitude-columns .ensures .0, magnitude-columns .magnitude-columns .ensures .1, angle-columns .angle-columns .ensures .1)
+    let magnitudes = c .before .before in
+    let angles = magnitudes .before in
+    simp (angles .numbers .ensures .0, magnitudes .numbers2 .ensures .0, magnitudes .numbers2 .ensures .1, angles .numbers .ensures .1)
 
 pub with-kinds-spec : {M : Type 1} → statement M
 with-kinds-spec = tie.close (tie.spec (λ c κs. search needs) (λ c κs. search needs) returns)

@@ -1,4 +1,4 @@
--- `case_text::read_branches` meets its contract: a refusal leaves the columns as they were; a good text's sections lie where its trailer says, its rows
+-- `editions::read_branches` meets its contract: a refusal leaves the columns as they were; a good text's sections lie where its trailer says, its rows
 -- fit, and each table is written by its own call. Assumes nothing.
 use mathlib.Core.Path.{_≡_, sym, ap, _∙_}
 use Prim.Native.Nat.{ℕ, min}
@@ -8,10 +8,10 @@ use Rattle.network.specs.declared.Rows.{Rows}
 use Rattle.network.specs.Network.{busesOf, slacksOf, generatorsOf, branchesOf, rowCounts}
 use Rattle.network.specs.BranchTable.{BranchNetwork, valuesOf, branchTableOf, branchNetworkOf, branchRoomOf}
 use Rattle.trailer.specs.declared.Edition.the-variants.{Second}
 use Rattle.case_text.specs.Answer.Laws.{PlacedSecond, branches-placed, ends, fitting, branches-read-good, branches-read-refused}
 use Rattle.case_text.proofs.Refusals.{untouched}
-use Rattle.case_text.proofs.read_branches.Statement.{statement}
-use Rattle.case_text.proofs.read_branches.Tie as tie
+use Rattle.editions.proofs.read_branches.Statement.{statement}
+use Rattle.editions.proofs.read_branches.Tie as tie
 
 -- ---- the places on the way, by name
 

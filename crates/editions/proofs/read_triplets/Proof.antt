@@ -1,4 +1,4 @@
--- `case_text::read_triplets` meets its contract: a refusal leaves the columns as they were; a good text's sections lie where its trailer says, its rows
+-- `editions::read_triplets` meets its contract: a refusal leaves the columns as they were; a good text's sections lie where its trailer says, its rows
 -- fit, and each column is written by its own call. Assumes nothing.
 use mathlib.Core.Path.{_≡_, sym, ap, _∙_}
 use Prim.Native.Nat.{ℕ, min}
@@ -7,10 +7,10 @@ use borrow.Author.Needs.{needs}
 use Rattle.network.specs.declared.Rows.{Rows}
 use Rattle.network.specs.Network.{Network, busesOf, slacksOf, generatorsOf, branchesOf, tripletsOf, networkOf, rowCounts, roomOf}
 use Rattle.trailer.specs.declared.Edition.the-variants.{First}
 use Rattle.case_text.specs.Answer.Laws.{PlacedFirst, placed, ends, fitting, read-good, read-refused}
 use Rattle.case_text.proofs.Refusals.{untouched}
-use Rattle.case_text.proofs.read_triplets.Statement.{statement}
-use Rattle.case_text.proofs.read_triplets.Tie as tie
+use Rattle.editions.proofs.read_triplets.Statement.{statement}
+use Rattle.editions.proofs.read_triplets.Tie as tie
 
 -- ---- the places on the way, by name
 

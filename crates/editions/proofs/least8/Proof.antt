@@ -1,7 +1,7 @@
--- `case_text::least8` meets its contract: the least of two fours. Assumes nothing.
+-- `editions::least8` meets its contract: the least of two fours. Assumes nothing.
 use borrow.Author.Needs.{needs}
-use Rattle.case_text.proofs.least8.Statement.{statement}
-use Rattle.case_text.proofs.least8.Tie as tie
+use Rattle.editions.proofs.least8.Statement.{statement}
+use Rattle.editions.proofs.least8.Tie as tie
 
 returns : tie.Need-returns
 returns c = cc
