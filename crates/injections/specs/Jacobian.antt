@@ -66,15 +66,25 @@ derivativesAt y va s t =
     let b = colOf y t in
     derivativesOf a b (entryOf y t) (at (s .v) a) (at (s .i) a) (at (s .v) b) (unitAt va b)
 
+-- the rows and columns of each bus
+pub record Places : Type 0 where
+  pub p-row : ℕ → ℕ
+  pub q-row : ℕ → ℕ
+  pub va-col : ℕ → ℕ
+  pub vm-col : ℕ → ℕ
+
+abbrev pub placesOf : AcPfLayout → Places
+placesOf l = record { p-row = pRow l; q-row = qRow l; va-col = vaCol l; vm-col = vmCol l }
+
 -- the workspace after the first k triplets
-unfoldable pub jacobianTo : ℕ → Triplets → List Float → Phasors → AcPfLayout → List Float → List Float
+unfoldable pub jacobianTo : ℕ → Triplets → List Float → Phasors → Places → List Float → List Float
 unfolding derivativesOf enteredAll
 jacobianTo zero y va s l w = w
 jacobianTo (suc k) y va s l w =
     let a = rowOf y k in
     let b = colOf y k in
-    enteredAll (pRow l a) (qRow l a) (vaCol l b) (vmCol l b) (derivativesAt y va s k) (jacobianTo k y va s l w)
+    enteredAll (l .p-row a) (l .q-row a) (l .va-col b) (l .vm-col b) (derivativesAt y va s k) (jacobianTo k y va s l w)
 
 -- and after all of them
 abbrev pub jacobianOf : Triplets → List Float → Phasors → AcPfLayout → List Float → List Float
-jacobianOf y va s l w = jacobianTo (length (y .row)) y va s l w
+jacobianOf y va s l w = jacobianTo (length (y .row)) y va s (placesOf l) w

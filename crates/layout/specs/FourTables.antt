@@ -5,14 +5,13 @@ use Prim.Native.Nat.{ℕ, zero, suc, _+_}
 use mathlib.Core.Bool.{cond}
 use mathlib.Core.List.{List}
 use lib.Dec.{eqb}
-use lib.ListN.{getD, replicate}
+use lib.ListN.{getD}
 use lib.Ieee.{Float}
-use Rattle.real.specs.Literals.{nought}
 use Rattle.layout.specs.declared.BusKind.{BusKind}
 use Rattle.layout.specs.declared.BusKind.the-variants.{Slack, Pv, Pq}
 use Rattle.layout.specs.Table.{table}
 use Rattle.layout.specs.Layout.{none, kindOf}
-use Rattle.layout.specs.Residual.{Powers, missingP, missingQ, atRow}
+use Rattle.layout.specs.Residual.{Powers, residualTo}
 
 -- ---- its numbers
 
@@ -97,12 +96,6 @@ qRow l b = getD (l .«q_of») b 0
 abbrev pub kindIn : FourTables → ℕ → BusKind
 kindIn l b = cond (eqb (vaCol l b) none) Slack (cond (eqb (vmCol l b) none) Pv Pq)
 
--- ---- the residual that was read off it
-
-unfoldable pub residualTo : ℕ → FourTables → Powers → List Float
-unfolding atRow
-residualTo zero l w = replicate 64 nought
-residualTo (suc k) l w = atRow (atRow (residualTo k l w) (pRow l k) (missingP w k)) (qRow l k) (missingQ w k)
-
+-- the residual that was read off it
 abbrev pub residualOf : FourTables → Powers → List Float
-residualOf l w = residualTo (l .n) l w
+residualOf l w = residualTo (l .n) (pRow l) (qRow l) w

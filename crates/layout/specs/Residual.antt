@@ -36,11 +36,11 @@ missingQ w b = missing (getD (w .qg) b nan) (getD (w .qd) b nan) (getD (w .q) b 
 unfoldable pub atRow : List Float → ℕ → Float → List Float
 atRow r row x = cond (ltb row none) (set r row x) r
 
--- the rows of the first k buses
-unfoldable pub residualTo : ℕ → AcPfLayout → Powers → List Float
+-- the rows of the first k buses: p and q say which they are
+unfoldable pub residualTo : ℕ → (ℕ → ℕ) → (ℕ → ℕ) → Powers → List Float
 unfolding atRow
-residualTo zero l w = replicate 64 nought
-residualTo (suc k) l w = atRow (atRow (residualTo k l w) (pRow l k) (missingP w k)) (qRow l k) (missingQ w k)
+residualTo zero p q w = replicate 64 nought
+residualTo (suc k) p q w = atRow (atRow (residualTo k p q w) (p k) (missingP w k)) (q k) (missingQ w k)
 
 abbrev pub residualOf : AcPfLayout → Powers → List Float
-residualOf l w = residualTo (l .n) l w
+residualOf l w = residualTo (l .n) (pRow l) (qRow l) w

@@ -18,16 +18,16 @@ use Rattle.layout.specs.declared.Point.{Point}
 unfoldable pub movedBy : Float → ℕ → Float → List Float → Float
 movedBy x c alpha w = cond (ltb c none) (add binary64 x (mul binary64 alpha (getD w (4096 + c) nan))) x
 
--- the first k buses moved
-abbrev pub stepTo : ℕ → AcPfLayout → Point → List Float → Float → Point
-stepTo k l p w alpha =
+-- the first k buses moved: va and vm say which their columns are
+abbrev pub stepTo : ℕ → (ℕ → ℕ) → (ℕ → ℕ) → Point → List Float → Float → Point
+stepTo k va vm p w alpha =
     record {
-      vm = stores (λ b. movedBy (getD (p .vm) b nan) (vmCol l b) alpha w) k (p .vm);
-      va = stores (λ b. movedBy (getD (p .va) b nan) (vaCol l b) alpha w) k (p .va);
+      vm = stores (λ b. movedBy (getD (p .vm) b nan) (vm b) alpha w) k (p .vm);
+      va = stores (λ b. movedBy (getD (p .va) b nan) (va b) alpha w) k (p .va);
     }
 
 unfoldable pub stepOf : AcPfLayout → Point → List Float → Float → Point
-stepOf l p w alpha = stepTo (l .n) l p w alpha
+stepOf l p w alpha = stepTo (l .n) (vaCol l) (vmCol l) p w alpha
 
 -- a magnitude NaN or <= 0, or an angle NaN
 unfoldable pub unfitAt : Float → Float → Bool

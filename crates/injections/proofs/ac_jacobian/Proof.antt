@@ -8,7 +8,7 @@ use lib.ListN.{length}
 use lib.Ieee.{Float}
 use Rattle.network.specs.Network.{tripletsOf}
 use Rattle.injections.specs.Injections.{at}
-use Rattle.injections.specs.Jacobian.{unitAt, jacobianTo}
+use Rattle.injections.specs.Jacobian.{unitAt, placesOf, jacobianTo}
 use Rattle.injections.specs.Jacobian.Laws.{unit-at, jacobian-turn, jacobian-end}
 use Rattle.injections.proofs.ac_jacobian.Statement.{statement}
 use Rattle.injections.proofs.ac_jacobian.Tie as tie
@@ -16,7 +16,7 @@ use Rattle.injections.proofs.ac_jacobian.Tie as tie
 abbrev Inv-loop : tie.InvT-loop
 Inv-loop n y-row y-col y-re y-im w₀ layout unit v-bus i-bus t₀ t-end w t =
     (t ≤ t-end) × (t-end ≡ length y-row) × (length w ≡ length w₀)
-    × ((va : List Float) → ((b : ℕ) → b < n → at unit b ≡ unitAt va b) → w ≡ jacobianTo t (tripletsOf y-row y-col y-re y-im) va (record { v = v-bus; i = i-bus }) layout w₀)
+    × ((va : List Float) → ((b : ℕ) → b < n → at unit b ≡ unitAt va b) → w ≡ jacobianTo t (tripletsOf y-row y-col y-re y-im) va (record { v = v-bus; i = i-bus }) (placesOf layout) w₀)
 
 abbrev μ-loop : tie.MeasureT-loop
 μ-loop n y-row y-col y-re y-im w₀ layout unit v-bus i-bus t₀ t-end w t = t-end - t

@@ -12,7 +12,7 @@ use lib.Ieee.{Float, nan}
 use Rattle.real.specs.Literals.{one}
 use Rattle.complex.specs.declared.Complex.{Complex}
 use Rattle.layout.specs.declared.AcPfLayout.{AcPfLayout}
-use Rattle.layout.specs.Layout.{none, vaCol, vmCol, pRow, qRow}
+use Rattle.layout.specs.Layout.{none}
 use Rattle.linsolve.specs.Linear as Linear
 use Rattle.linsolve.specs.Linear.{added}
 use Rattle.injections.specs.declared.Phasors.{Phasors}
@@ -20,7 +20,7 @@ use Rattle.injections.specs.declared.Derivatives.{Derivatives}
 use Rattle.network.specs.Network.{Triplets}
 use Rattle.injections.specs.Injections.{rowOf, colOf, at, voltagesOf}
 use Rattle.injections.specs.Injections.Laws.{voltages-at}
-use Rattle.injections.specs.Jacobian.{unitAt, onDiagonal, offDiagonal, derivativesOf, entered, enteredRow, enteredAll, derivativesAt, jacobianTo, jacobianOf}
+use Rattle.injections.specs.Jacobian.{unitAt, onDiagonal, offDiagonal, derivativesOf, entered, enteredRow, enteredAll, derivativesAt, Places, placesOf, jacobianTo, jacobianOf}
 
 -- ---- the ways
 
@@ -61,14 +61,14 @@ unit-at n va b p few = voltages-at n (replicate 32 one) va b p few ∙ rw (getD-
 
 -- ---- turn and end
 
-module _ (y : Triplets) (va : List Float) (s : Phasors) (l : AcPfLayout) (w : List Float) where
+module _ (y : Triplets) (va : List Float) (s : Phasors) (l : Places) (w : List Float) where
   pub jacobian-end : jacobianTo 0 y va s l w ≡ w
   unfolding jacobianTo
   jacobian-end = refl
 
   pub jacobian-turn : (k : ℕ)
       → jacobianTo (suc k) y va s l w
-      ≡ enteredAll (pRow l (rowOf y k)) (qRow l (rowOf y k)) (vaCol l (colOf y k)) (vmCol l (colOf y k)) (derivativesAt y va s k) (jacobianTo k y va s l w)
+      ≡ enteredAll (l .p-row (rowOf y k)) (l .q-row (rowOf y k)) (l .va-col (colOf y k)) (l .vm-col (colOf y k)) (derivativesAt y va s k) (jacobianTo k y va s l w)
   unfolding jacobianTo
   jacobian-turn k = refl
 
@@ -103,9 +103,9 @@ entered-all-beyond p q va vm d w =
     (beyond-on (entered-beyond p va _ w) (beyond-on (entered-beyond p vm _ _) (beyond-on (entered-beyond q va _ _) (entered-beyond q vm _ _))))
 
 module _ (y : Triplets) (va : List Float) (s : Phasors) (l : AcPfLayout) (w : List Float) where
-  jacobian-beyond : (k : ℕ) → Beyond w (jacobianTo k y va s l w)
-  jacobian-beyond zero = rw (jacobian-end y va s l w) (beyond-all w)
-  jacobian-beyond (suc k) = rw (jacobian-turn y va s l w k) (beyond-on (jacobian-beyond k) (entered-all-beyond _ _ _ _ _ _))
+  jacobian-beyond : (k : ℕ) → Beyond w (jacobianTo k y va s (placesOf l) w)
+  jacobian-beyond zero = rw (jacobian-end y va s (placesOf l) w) (beyond-all w)
+  jacobian-beyond (suc k) = rw (jacobian-turn y va s (placesOf l) w k) (beyond-on (jacobian-beyond k) (entered-all-beyond _ _ _ _ _ _))
 
   pub jacobian-length : length (jacobianOf y va s l w) ≡ length w
   jacobian-length = jacobian-beyond (length (y .row)) .size

@@ -12,7 +12,7 @@ use Rattle.linsolve.specs.Linear.Space.{Alike, added-alike}
 use Rattle.network.specs.Network.{Triplets}
 use Rattle.injections.specs.declared.Phasors.{Phasors}
 use Rattle.injections.specs.declared.Derivatives.{Derivatives}
-use Rattle.injections.specs.Jacobian.{entered, enteredAll, jacobianTo, jacobianOf}
+use Rattle.injections.specs.Jacobian.{entered, enteredAll, placesOf, jacobianTo, jacobianOf}
 use Rattle.injections.specs.Jacobian.Laws.{jacobian-end, jacobian-turn}
 
 module _ {dim : ℕ} where
@@ -31,7 +31,7 @@ module _ {dim : ℕ} where
       entered-alike (entered-alike (entered-alike (entered-alike a p va (d .dva .re)) p vm (d .dvm .re)) q va (d .dva .im)) q vm (d .dvm .im)
 
   module _ (y : Triplets) (va : List Float) (s : Phasors) (l : AcPfLayout) {w v : List Float} (a : Alike dim w v) where
-    jacobian-alike : (k : ℕ) → Alike dim (jacobianTo k y va s l w) (jacobianTo k y va s l v)
+    jacobian-alike : (k : ℕ) → Alike dim (jacobianTo k y va s (placesOf l) w) (jacobianTo k y va s (placesOf l) v)
     jacobian-alike zero = simp jacobian-end a
     jacobian-alike (suc k) = simp jacobian-turn (entered-all-alike (jacobian-alike k) _ _ _ _ _)
 

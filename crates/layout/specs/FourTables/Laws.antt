@@ -13,48 +13,38 @@ use Rattle.layout.specs.Table.{table}
 use Rattle.layout.specs.Table.Laws.{stores-ext}
 use Rattle.layout.specs.Layout.{none, has, number, after, kindOf, countTo, numberAt, firstOf, layoutOf, vaCol, vmCol, pRow, qRow, kindIn}
 use Rattle.layout.specs.Residual as Two
-use Rattle.layout.specs.Residual.{Powers, missingP, missingQ, atRow}
+use Rattle.layout.specs.Residual.{Powers, residualTo}
 use Rattle.layout.specs.FourTables as Four
 use Rattle.layout.specs.FourTables.{angleCol, nextAngle, magnitudeCol, nextMagnitude, angleCount, magnitudeCount, angleAt, magnitudeAt, FourTables, fourTablesOf}
 
 -- ---- the same numbers
 
-angle-number : (k : BusKind) (c : ℕ) → number (has Angle k) c ≡ angleCol k c
-angle-number Slack c = refl
-angle-number Pv c = refl
-angle-number Pq c = refl
+angle-same : (k : BusKind) (c : ℕ) → (number (has Angle k) c ≡ angleCol k c) × (after (has Angle k) c ≡ nextAngle k c)
+angle-same Slack c = (refl, refl)
+angle-same Pv c = (refl, refl)
+angle-same Pq c = (refl, refl)
 
-magnitude-number : (k : BusKind) (c : ℕ) → number (has Magnitude k) c ≡ magnitudeCol k c
-magnitude-number Slack c = refl
-magnitude-number Pv c = refl
-magnitude-number Pq c = refl
-
-angle-after : (k : BusKind) (c : ℕ) → after (has Angle k) c ≡ nextAngle k c
-angle-after Slack c = refl
-angle-after Pv c = refl
-angle-after Pq c = refl
-
-magnitude-after : (k : BusKind) (c : ℕ) → after (has Magnitude k) c ≡ nextMagnitude k c
-magnitude-after Slack c = refl
-magnitude-after Pv c = refl
-magnitude-after Pq c = refl
+magnitude-same : (k : BusKind) (c : ℕ) → (number (has Magnitude k) c ≡ magnitudeCol k c) × (after (has Magnitude k) c ≡ nextMagnitude k c)
+magnitude-same Slack c = (refl, refl)
+magnitude-same Pv c = (refl, refl)
+magnitude-same Pq c = (refl, refl)
 
 module _ (kinds : List BusKind) where
   angles : (k : ℕ) → countTo Angle kinds 0 k ≡ angleCount k kinds
   unfolding countTo angleCount
   angles zero = refl
-  angles (suc k) = angle-after (kindOf kinds k) _ ∙ ap (nextAngle (kindOf kinds k)) (angles k)
+  angles (suc k) = angle-same (kindOf kinds k) _ .1 ∙ ap (nextAngle (kindOf kinds k)) (angles k)
 
   magnitudes : (first k : ℕ) → countTo Magnitude kinds first k ≡ magnitudeCount k kinds first
   unfolding countTo magnitudeCount
   magnitudes first zero = refl
-  magnitudes first (suc k) = magnitude-after (kindOf kinds k) _ ∙ ap (nextMagnitude (kindOf kinds k)) (magnitudes first k)
+  magnitudes first (suc k) = magnitude-same (kindOf kinds k) _ .1 ∙ ap (nextMagnitude (kindOf kinds k)) (magnitudes first k)
 
   angle-table : (n : ℕ) → table n none (numberAt Angle kinds 0) ≡ table n none (angleAt kinds)
-  angle-table n = stores-ext _ _ n (replicate 32 none) (λ b h. angle-number (kindOf kinds b) _ ∙ ap (angleCol (kindOf kinds b)) (angles b))
+  angle-table n = stores-ext _ _ n (replicate 32 none) (λ b h. angle-same (kindOf kinds b) _ .0 ∙ ap (angleCol (kindOf kinds b)) (angles b))
 
   magnitude-table : (n first : ℕ) → table n none (numberAt Magnitude kinds first) ≡ table n none (magnitudeAt kinds first)
-  magnitude-table n first = stores-ext _ _ n (replicate 32 none) (λ b h. magnitude-number (kindOf kinds b) _ ∙ ap (magnitudeCol (kindOf kinds b)) (magnitudes first b))
+  magnitude-table n first = stores-ext _ _ n (replicate 32 none) (λ b h. magnitude-same (kindOf kinds b) _ .0 ∙ ap (magnitudeCol (kindOf kinds b)) (magnitudes first b))
 
 -- ---- the same answers
 
@@ -88,11 +78,7 @@ same-answers n kinds =
     vm : (b : ℕ) → vmCol (layoutOf n kinds) b ≡ Four.vmCol (fourTablesOf n kinds) b
     vm b = rw (magnitude-table kinds n (firstOf Magnitude n kinds), angles kinds n)
 
-module _ (l : AcPfLayout) (o : FourTables) (same : SameAnswers l o) (w : Powers) where
-  residual-to : (k : ℕ) → Two.residualTo k l w ≡ Four.residualTo k o w
-  unfolding Two.residualTo Four.residualTo
-  residual-to zero = refl
-  residual-to (suc k) = rw (residual-to k, same .p-row k, same .q-row k)
+-- ---- the same residual
 
-  pub same-residual : Two.residualOf l w ≡ Four.residualOf o w
-  same-residual = residual-to (l .n) ∙ ap (λ k. Four.residualTo k o w) (same .buses)
+pub same-residual : (l : AcPfLayout) (o : FourTables) → SameAnswers l o → (w : Powers) → Two.residualOf l w ≡ Four.residualOf o w
+same-residual l o same w = λ i. residualTo (same .buses i) (λ b. same .p-row b i) (λ b. same .q-row b i) w

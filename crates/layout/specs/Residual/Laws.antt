@@ -8,7 +8,6 @@ use lib.ListN.{getD}
 use lib.Ieee.{Float, nan}
 use Rattle.layout.specs.declared.BusKind.{BusKind}
 use Rattle.layout.specs.declared.BusKind.the-variants.{Slack, Pv}
-use Rattle.layout.specs.declared.AcPfLayout.{AcPfLayout}
 use Rattle.layout.specs.declared.Unknown.the-variants.{Angle, Magnitude}
 use Rattle.layout.specs.Layout.{none, kindOf, layoutOf, pRow, qRow}
 use Rattle.layout.specs.Layout.Laws.{column-none}
@@ -20,18 +19,18 @@ unfolding atRow
 lost r row x y (inl e) = rw e
 lost r row x y (inr e) = rw e
 
-pub unread : (k : ℕ) (l : AcPfLayout) (w v : Powers)
-    → ((b : ℕ) → b < k → (pRow l b ≡ none) ⊎ (missingP w b ≡ missingP v b))
-    → ((b : ℕ) → b < k → (qRow l b ≡ none) ⊎ (missingQ w b ≡ missingQ v b))
-    → residualTo k l w ≡ residualTo k l v
+pub unread : (k : ℕ) (p q : ℕ → ℕ) (w v : Powers)
+    → ((b : ℕ) → b < k → (p b ≡ none) ⊎ (missingP w b ≡ missingP v b))
+    → ((b : ℕ) → b < k → (q b ≡ none) ⊎ (missingQ w b ≡ missingQ v b))
+    → residualTo k p q w ≡ residualTo k p q v
 unfolding residualTo
-unread zero l w v hp hq = refl
-unread (suc k) l w v hp hq =
+unread zero p q w v hp hq = refl
+unread (suc k) p q w v hp hq =
     rw (
-      unread k l w v (λ b h. hp b (omega arith)) (λ b h. hq b (omega arith)),
-      lost (residualTo k l v) (pRow l k) _ _ (hp k (omega arith)),
+      unread k p q w v (λ b h. hp b (omega arith)) (λ b h. hq b (omega arith)),
+      lost (residualTo k p q v) (p k) _ _ (hp k (omega arith)),
     )
-    (lost (atRow (residualTo k l v) (pRow l k) (missingP v k)) (qRow l k) _ _ (hq k (omega arith)))
+    (lost (atRow (residualTo k p q v) (p k) (missingP v k)) (q k) _ _ (hq k (omega arith)))
 
 -- the kinds that read neither figure, and those that read no reactive one
 abbrev pub NoActive : BusKind → Type 0
@@ -51,7 +50,7 @@ pub record AlikeFor (n : ℕ) (kinds : List BusKind) (w v : Powers) : Type 0 whe
 pub residual-unread : (n : ℕ) (kinds : List BusKind) (w v : Powers) → n ≤ 32 → AlikeFor n kinds w v
     → residualOf (layoutOf n kinds) w ≡ residualOf (layoutOf n kinds) v
 unfolding layoutOf
-residual-unread n kinds w v few a = unread n (layoutOf n kinds) w v p-row q-row
+residual-unread n kinds w v few a = unread n (pRow (layoutOf n kinds)) (qRow (layoutOf n kinds)) w v p-row q-row
   where
     p-row : (b : ℕ) → b < n → (pRow (layoutOf n kinds) b ≡ none) ⊎ (missingP w b ≡ missingP v b)
     p-row b h = go (a .active b h)

@@ -3,13 +3,14 @@ use Prim.Native.Nat.{ℕ, _-_, _≤_}
 use mathlib.Core.Path.{_≡_, refl, ap, _∙_}
 use native.Mathlib.Omega.{arith}
 use borrow.Author.Needs.{needs}
+use Rattle.layout.specs.Layout.{vaCol, vmCol}
 use Rattle.newton.specs.Step.{stepTo}
 use Rattle.newton.specs.Step.Laws.{step-begin, step-turn, step-end}
 use Rattle.newton.proofs.take_step.Statement.{statement}
 use Rattle.newton.proofs.take_step.Tie as tie
 
 abbrev Inv-loop : tie.InvT-loop
-Inv-loop w alpha layout p n t₀ b₀ t b = (n ≡ layout .n) × (b ≤ n) × (t ≡ stepTo b layout p w alpha)
+Inv-loop w alpha layout p n t₀ b₀ t b = (n ≡ layout .n) × (b ≤ n) × (t ≡ stepTo b (vaCol layout) (vmCol layout) p w alpha)
 
 abbrev μ-loop : tie.MeasureT-loop
 μ-loop w alpha layout p n t₀ b₀ t b = n - b
@@ -32,7 +33,7 @@ returns c =
     let l = c .before .loop in
     let a = c .before .before .before .args in
     let e : l .b ≡ a .t1 .n = omega arith in
-    l .inv .2 ∙ ap (λ (k : ℕ). stepTo k (a .t1) (a .t2) (a .w .now) (a .alpha)) e ∙ step-end (a .t1) (a .t2) (a .w .now) (a .alpha)
+    l .inv .2 ∙ ap (λ (k : ℕ). stepTo k (vaCol (a .t1)) (vmCol (a .t1)) (a .t2) (a .w .now) (a .alpha)) e ∙ step-end (a .t1) (a .t2) (a .w .now) (a .alpha)
 
 pub take-step-spec : {M : Type 1} → statement M
 take-step-spec =

@@ -12,15 +12,15 @@ use Rattle.layout.specs.declared.Point.{Point}
 use Rattle.newton.specs.Step.{movedBy, stepTo, stepOf}
 
 module _ (l : AcPfLayout) (p : Point) (w : List Float) (alpha : Float) where
-  pub step-begin : p ≡ stepTo 0 l p w alpha
+  pub step-begin : p ≡ stepTo 0 (vaCol l) (vmCol l) p w alpha
   unfolding stores
   step-begin = refl
 
-  pub step-turn : (b : ℕ) (t : Point) (m a : Float) → t ≡ stepTo b l p w alpha → a ≡ movedBy (getD (p .va) b nan) (vaCol l b) alpha w
-      → m ≡ movedBy (getD (p .vm) b nan) (vmCol l b) alpha w → record { vm = set (t .vm) b m; va = set (t .va) b a } ≡ stepTo (b + 1) l p w alpha
+  pub step-turn : (b : ℕ) (t : Point) (m a : Float) → t ≡ stepTo b (vaCol l) (vmCol l) p w alpha → a ≡ movedBy (getD (p .va) b nan) (vaCol l b) alpha w
+      → m ≡ movedBy (getD (p .vm) b nan) (vmCol l b) alpha w → record { vm = set (t .vm) b m; va = set (t .va) b a } ≡ stepTo (b + 1) (vaCol l) (vmCol l) p w alpha
   unfolding stores
   step-turn b t m a et ea em = rw (add-one, et, ea, em)
 
-  pub step-end : stepTo (l .n) l p w alpha ≡ stepOf l p w alpha
+  pub step-end : stepTo (l .n) (vaCol l) (vmCol l) p w alpha ≡ stepOf l p w alpha
   unfolding stepOf
   step-end = refl

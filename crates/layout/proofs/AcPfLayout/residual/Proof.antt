@@ -5,12 +5,13 @@ use native.Mathlib.Omega.{arith}
 use native.Mathlib.Numerals.{add-one}
 use borrow.Author.Needs.{needs}
 use Rattle.layout.specs.Table.Laws.{Counted, counted-all}
+use Rattle.layout.specs.Layout.{pRow, qRow}
 use Rattle.layout.specs.Residual.{powers, residualTo}
 use Rattle.layout.proofs.AcPfLayout.residual.Statement.{statement}
 use Rattle.layout.proofs.AcPfLayout.residual.Tie as tie
 
 abbrev Inv-loop : tie.InvT-loop
-Inv-loop pd qd pg self qg p-calc q-calc n r₀ b₀ r b = (n ≡ self .n) × Counted (λ i. residualTo i self (powers pd qd pg qg p-calc q-calc)) (self .n) b r
+Inv-loop pd qd pg self qg p-calc q-calc n r₀ b₀ r b = (n ≡ self .n) × Counted (λ i. residualTo i (pRow self) (qRow self) (powers pd qd pg qg p-calc q-calc)) (self .n) b r
 
 abbrev μ-loop : tie.MeasureT-loop
 μ-loop pd qd pg self qg p-calc q-calc n r₀ b₀ r b = n - b
