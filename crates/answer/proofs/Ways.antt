@@ -18,8 +18,9 @@ use Rattle.case_text.specs.Answer as Reader
 use Rattle.case_text.specs.Answer.Laws.{filled-room, branch-filled-room}
 use Rattle.case_text.proofs.Refusals.{Refused, refused-paper}
 use Rattle.case_text.proofs.Unique.{accepts, writes}
-use Rattle.tables.specs.declared.Outcome.{Outcome}
-use Rattle.tables.specs.Tables.{Outs, answer, paperOf, solveOf}
+use Rattle.outcome.specs.declared.Outcome.{Outcome}
+use Rattle.outcome.specs.Outcome.{Outs, paperOf}
+use Rattle.tables.specs.Tables.{answer, solveOf}
 use Rattle.branch_tables.specs.BranchTables.{solveBranchesOf}
 use Rattle.answer.specs.declared.Answered.the-variants as Answered
 use Rattle.answer.specs.TextAnswer.{blank, blankBranches, paperIn, TextAnswer, textAnswer, textAnswerBy, firstAnswer, secondAnswer, textAnswerOf}

@@ -14,7 +14,8 @@ use Rattle.trailer.specs.declared.Edition.{Edition}
 use Rattle.trailer.specs.declared.Edition.the-variants.{First, Second}
 use Rattle.case_text.specs.declared.Contents.{Contents}
 use Rattle.case_text.specs.Answer as Reader
-use Rattle.tables.specs.Tables.{Outs, Answer, paperOf, solveOf}
+use Rattle.outcome.specs.Outcome.{Outs, paperOf}
+use Rattle.tables.specs.Tables.{Answer, solveOf}
 use Rattle.branch_tables.specs.BranchTables.{solveBranchesOf}
 use Rattle.answer.specs.declared.Answered.{Answered}
 use Rattle.answer.specs.declared.Answered.the-variants as Answered

@@ -1,8 +1,8 @@
 // The answer of a case text: the text is read by the rules of its edition, and the tables that it holds are solved.
 use case_text::Reading;
 use network::Rows;
+use outcome::Outcome;
 use starts::AcStart;
-use tables::Outcome;
 use trailer::Edition;
 ghost use mathlib.Core.Path.{_≡_};
 ghost use mathlib.Core.List.{List};
@@ -10,7 +10,8 @@ ghost use Prim.Native.Nat.{_≤_};
 ghost use lib.Ieee.{Float};
 ghost use Rattle.network.specs.Network.{Network, busesOf, slacksOf, generatorsOf, branchesOf, tripletsOf, networkOf, RoomFor, firstRows};
 ghost use Rattle.network.specs.BranchTable.{BranchNetwork, valuesOf, branchTableOf, branchNetworkOf, RoomForBranches, firstBranchRows};
-ghost use Rattle.tables.specs.Tables.{Outs, outs, answer, paperOf, solveOf};
+ghost use Rattle.outcome.specs.Outcome.{Outs, outs, paperOf};
+ghost use Rattle.tables.specs.Tables.{answer, solveOf};
 ghost use Rattle.branch_tables.specs.BranchTables.{solveBranchesOf};
 ghost use Rattle.answer.specs.TextAnswer.{busesIn, paperIn, textAnswer, firstAnswer, secondAnswer, textAnswerOf};
 

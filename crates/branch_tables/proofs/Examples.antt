@@ -38,9 +38,10 @@ use Rattle.starts.specs.Starts.{flatOf}
 use Rattle.starts.specs.declared.AcStart.the-variants.{Flat}
 use Rattle.pf_ac.specs.WithStart.{acPfOf}
 use Rattle.pf_ac.specs.Search.{nthStart, betterOf, tryOf, searchFrom, searchOf}
-use Rattle.tables.specs.Tables.{Outs, outs, answer, ok, lengthsIn, roomy, checkedOf, withAnswer, zeros, runOf, afterCheck}
-use Rattle.tables.specs.declared.Checked.the-variants as Checked
-use Rattle.tables.specs.declared.Outcome.the-variants.{Room}
+use Rattle.outcome.specs.Outcome.{Outs, outs, ok, lengthsIn, roomy, withAnswer, zeros}
+use Rattle.tables.specs.Tables.{answer, checkedOf, runOf, afterCheck}
+use Rattle.outcome.specs.declared.Checked.the-variants as Checked
+use Rattle.outcome.specs.declared.Outcome.the-variants.{Room}
 use Rattle.ybus.specs.declared.Fault.the-variants as Fault
 use Rattle.branch_tables.specs.BranchTables.{thenFault, checkedBranchesOf, builtNetwork, solveBranchesOf}
 

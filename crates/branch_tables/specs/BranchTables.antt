@@ -15,10 +15,11 @@ use Rattle.ybus.specs.declared.Fault.the-variants as Fault
 use Rattle.ybus.specs.Fault.{faultOf}
 use Rattle.ybus.specs.Ybus.{Fit, ybusOf}
 use Rattle.starts.specs.declared.AcStart.{AcStart}
-use Rattle.tables.specs.declared.Checked.{Checked}
-use Rattle.tables.specs.declared.Checked.the-variants as Checked
-use Rattle.tables.specs.declared.Outcome.the-variants.{Counts, Tap, Ends}
-use Rattle.tables.specs.Tables.{Outs, Lengths, lengthsIn, OnePerBus, checkedOf, Answer, afterCheck}
+use Rattle.outcome.specs.declared.Checked.{Checked}
+use Rattle.outcome.specs.declared.Checked.the-variants as Checked
+use Rattle.outcome.specs.declared.Outcome.the-variants.{Counts, Tap, Ends}
+use Rattle.outcome.specs.Outcome.{Outs, Lengths, lengthsIn, OnePerBus}
+use Rattle.tables.specs.Tables.{checkedOf, Answer, afterCheck}
 
 -- the refusal of a branch at fault
 abbrev pub faultRefusal : Fault → Checked

@@ -1,8 +1,8 @@
 // The solve over tables of branches: the public call. The list of the admittance matrix's entries is built from the branches, and the tables with that list as
 // their triplets are solved as those of the first edition are.
+use outcome::Checked;
+use outcome::Outcome;
 use starts::AcStart;
-use tables::Checked;
-use tables::Outcome;
 use ybus::Entries;
 use ybus::Fault;
 ghost use mathlib.Core.Path.{_≡_};
@@ -14,7 +14,8 @@ ghost use Rattle.network.specs.Network.{Network, busCount, busesOf, slacksOf, g
 ghost use Rattle.network.specs.Checks.{WellIndexed};
 ghost use Rattle.network.specs.BranchTable.{BranchNetwork, valuesOf, branchTableOf, branchNetworkOf, noTriplets};
 ghost use Rattle.ybus.specs.Ybus.{Filled, listIn};
-ghost use Rattle.tables.specs.Tables.{Outs, outs, OnePerBus, lengthsOf, lengthsIn, checkedOf, runOf, paperOf, answer, afterRun};
+ghost use Rattle.outcome.specs.Outcome.{Outs, outs, OnePerBus, lengthsOf, lengthsIn, paperOf};
+ghost use Rattle.tables.specs.Tables.{checkedOf, runOf, answer, afterRun};
 ghost use Rattle.branch_tables.specs.BranchTables.{faultRefusal, checkedBranchesOf, builtNetwork, ReadyBranches, solveBranchesOf};
 
 // ---- the checks

@@ -10,7 +10,7 @@ use Rattle.real.specs.Tests.{both}
 use Rattle.real.specs.Literals.{double}
 use Rattle.network.specs.Network.{roomOf, fitsOf, firstRows}
 use Rattle.case_text.proofs.Examples.{listing, listing-contents, listing-tables, listing-edition, listing-read}
-use Rattle.tables.specs.Tables.{ok, lengthsIn, roomy, zeros}
+use Rattle.outcome.specs.Outcome.{ok, lengthsIn, roomy, zeros}
 use Rattle.tables.proofs.Examples as Solved
 use Rattle.lines.specs.Lines.{decimalBy, printedReal, okLine, busLine, busLines}
 use Rattle.answer.specs.TextAnswer.{blank, afterFirst, textAnswerBy}

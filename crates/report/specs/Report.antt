@@ -11,7 +11,7 @@ use Rattle.fields.specs.Real.{DigitRule, allowed}
 use Rattle.trailer.specs.Trailer.{editionOf}
 use Rattle.trailer.specs.declared.Edition.{Edition}
 use Rattle.case_text.specs.declared.Contents.{Contents}
-use Rattle.tables.specs.Tables.{Outs, outs}
+use Rattle.outcome.specs.Outcome.{Outs, outs}
 use Rattle.answer.specs.TextAnswer.{TextAnswer, textAnswerBy}
 use Rattle.lines.specs.Lines.{okLine, busLines, refusedLine, Wrote}
 

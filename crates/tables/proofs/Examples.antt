@@ -28,9 +28,10 @@ use Rattle.starts.specs.References.{laterRow, referencesOf}
 use Rattle.starts.specs.Starts.{caseOf, flatOf}
 use Rattle.pf_ac.specs.WithStart.{acPfOf}
 use Rattle.pf_ac.specs.Search.{nthStart, betterOf, tryOf, searchFrom, searchOf}
-use Rattle.tables.specs.Tables.{Outs, outs, answer, ok, lengthsIn, roomy, checkedOf, withAnswer, zeros, runOf, afterCheck, solveOf}
-use Rattle.tables.specs.declared.Checked.the-variants as Checked
-use Rattle.tables.specs.declared.Outcome.the-variants.{Room}
+use Rattle.outcome.specs.Outcome.{Outs, outs, ok, lengthsIn, roomy, withAnswer, zeros}
+use Rattle.tables.specs.Tables.{answer, checkedOf, runOf, afterCheck, solveOf}
+use Rattle.outcome.specs.declared.Checked.the-variants as Checked
+use Rattle.outcome.specs.declared.Outcome.the-variants.{Room}
 use Rattle.starts.specs.declared.AcStart.{AcStart}
 use Rattle.starts.specs.declared.AcStart.the-variants.{Flat, Case}
 

@@ -40,7 +40,8 @@ use Rattle.case_text.specs.Answer.Laws.{rows-most, filled-room, branch-filled-r
 use Rattle.starts.specs.declared.AcStart.{AcStart}
 use Rattle.pf_ac.specs.WithStart.Withheld.{Alike}
 use Rattle.ybus.specs.Fault.{faultOf}
-use Rattle.tables.specs.Tables.{Outs, lengthsIn, paperOf, roomy, rowRefusal, busRefusal, checkedOf, Answer, afterCheck, solveOf}
+use Rattle.outcome.specs.Outcome.{Outs, lengthsIn, paperOf, roomy, rowRefusal, busRefusal}
+use Rattle.tables.specs.Tables.{checkedOf, Answer, afterCheck, solveOf}
 use Rattle.tables.specs.Tables.Withheld.{solve-withheld}
 use Rattle.tables.specs.Tables.Space.{answer-space, columns-space}
 use Rattle.branch_tables.specs.BranchTables.{thenFault, builtNetwork, solveBranchesOf}

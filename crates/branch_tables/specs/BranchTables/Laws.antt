@@ -27,12 +27,14 @@ use Rattle.ybus.specs.Fault.Laws.{Above, Meet, FirstFault, tap-told, ends-told,
 use Rattle.ybus.specs.Ybus.{Fit, entriesOf, listIn}
 use Rattle.ybus.specs.Ybus.Laws.{at-most, list-good, OneDiagonal, one-diagonal, entries-list}
 use Rattle.starts.specs.declared.AcStart.{AcStart}
-use Rattle.tables.specs.declared.Checked.{Checked}
-use Rattle.tables.specs.declared.Checked.the-variants as Checked
-use Rattle.tables.specs.declared.Outcome.{Outcome}
-use Rattle.tables.specs.declared.Outcome.the-variants.{Solved, Counts, Room, Slack, Generator, Branch, Triplet, Tap, Ends, NotConverged}
-use Rattle.tables.specs.Tables.{paperOf, Answer, Outs, Lengths, lengthsIn, roomy, busRefusal, checkedOf, runOf, answer, afterRun, afterCheck, solveOf}
-use Rattle.tables.specs.Tables.Laws.{Met, met, met-ready, one-per-bus, answer-one}
+use Rattle.outcome.specs.declared.Checked.{Checked}
+use Rattle.outcome.specs.declared.Checked.the-variants as Checked
+use Rattle.outcome.specs.declared.Outcome.{Outcome}
+use Rattle.outcome.specs.declared.Outcome.the-variants.{Solved, Counts, Room, Slack, Generator, Branch, Triplet, Tap, Ends, NotConverged}
+use Rattle.outcome.specs.Outcome.{paperOf, Outs, Lengths, lengthsIn, roomy, busRefusal}
+use Rattle.tables.specs.Tables.{Answer, checkedOf, runOf, answer, afterRun, afterCheck, solveOf}
+use Rattle.outcome.specs.Outcome.Laws.{one-per-bus}
+use Rattle.tables.specs.Tables.Laws.{Met, met, met-ready, answer-one}
 use Rattle.branch_tables.specs.BranchTables.{faultRefusal, thenFault, checkedBranchesOf, builtNetwork, ReadyBranches, solveBranchesOf}
 
 -- ---- the checks

@@ -5,10 +5,11 @@ use lib.ListN.{length}
 use lib.Ieee.{Float}
 use Rattle.network.specs.BranchTable.{BranchNetwork}
 use Rattle.starts.specs.declared.AcStart.{AcStart}
-use Rattle.tables.specs.declared.Checked.{Checked}
-use Rattle.tables.specs.declared.Checked.the-variants as Checked
-use Rattle.tables.specs.declared.Outcome.{Outcome}
-use Rattle.tables.specs.Tables.{Outs, lengthsIn, paperOf, Answer, answer}
+use Rattle.outcome.specs.declared.Checked.{Checked}
+use Rattle.outcome.specs.declared.Checked.the-variants as Checked
+use Rattle.outcome.specs.declared.Outcome.{Outcome}
+use Rattle.outcome.specs.Outcome.{Outs, lengthsIn, paperOf}
+use Rattle.tables.specs.Tables.{Answer, answer}
 use Rattle.tables.specs.Tables.Space.{ready-space}
 use Rattle.branch_tables.specs.BranchTables.{checkedBranchesOf, builtNetwork, solveBranchesOf}
 use Rattle.branch_tables.specs.BranchTables.Laws.{met-branches, built-ready, branches-refused, solved-as-built}

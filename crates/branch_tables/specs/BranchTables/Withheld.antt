@@ -11,10 +11,11 @@ use Rattle.ybus.specs.Fault.{faultOf}
 use Rattle.ybus.specs.Ybus.{ybusOf}
 use Rattle.starts.specs.declared.AcStart.{AcStart}
 use Rattle.pf_ac.specs.WithStart.Withheld.{kindFor, AlikeBuses, AlikeGenerators, Alike}
-use Rattle.tables.specs.declared.Checked.{Checked}
-use Rattle.tables.specs.declared.Checked.the-variants as Checked
-use Rattle.tables.specs.declared.Outcome.the-variants.{Counts}
-use Rattle.tables.specs.Tables.{Outs, lengthsIn, afterCheck}
+use Rattle.outcome.specs.declared.Checked.{Checked}
+use Rattle.outcome.specs.declared.Checked.the-variants as Checked
+use Rattle.outcome.specs.declared.Outcome.the-variants.{Counts}
+use Rattle.outcome.specs.Outcome.{Outs, lengthsIn}
+use Rattle.tables.specs.Tables.{afterCheck}
 use Rattle.tables.specs.Tables.Withheld.{checked-same, ready-same}
 use Rattle.branch_tables.specs.BranchTables.{thenFault, checkedBranchesOf, builtNetwork, solveBranchesOf}
 use Rattle.branch_tables.specs.BranchTables.Laws.{ready-branches}

@@ -22,7 +22,7 @@ use Rattle.case_text.specs.Text.{textBy, textOf}
 use Rattle.case_text.specs.Before.{MovedText}
 use Rattle.case_text.specs.Answer as Reader
 use Rattle.pf_ac.specs.WithStart.Withheld.{Alike}
-use Rattle.tables.specs.Tables.{Outs, lengthsIn, roomy}
+use Rattle.outcome.specs.Outcome.{Outs, lengthsIn, roomy}
 use Rattle.branch_tables.specs.BranchTables.Withheld.{AlikeBranches}
 use Rattle.answer.specs.TextAnswer.{textAnswer, unread, afterFirst, afterSecond, textAnswerOf}
 use Rattle.answer.specs.TextAnswer.Laws.{textGives, answer-never-7-9, answer-withheld, answer-branches-withheld, text-space, answer-kept, answer-before}

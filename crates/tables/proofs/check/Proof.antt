@@ -4,7 +4,7 @@ use borrow.Author.Needs.{needs}
 use borrow.Author.Tests.{not-true, not-false}
 use Rattle.network.specs.Missing.{missingIn}
 use Rattle.network.specs.Checks.Laws.{counted-branches, counted-triplets}
-use Rattle.tables.specs.Tables.{busRefusal}
+use Rattle.outcome.specs.Outcome.{busRefusal}
 use Rattle.tables.specs.Tables.Laws.{check-counts, check-room, check-buses}
 use Rattle.tables.proofs.check.Statement.{statement}
 use Rattle.tables.proofs.check.Tie as tie

@@ -1,7 +1,8 @@
 -- `tables::solve` meets its contract: what the checks tell is what the rest asks for. Assumes nothing.
 use borrow.Author.Needs.{needs}
 use Rattle.network.specs.Checks.Laws.{well-indexed}
-use Rattle.tables.specs.Tables.Laws.{met, one-per-bus, solve-ready, solve-refused}
+use Rattle.outcome.specs.Outcome.Laws.{one-per-bus}
+use Rattle.tables.specs.Tables.Laws.{met, solve-ready, solve-refused}
 use Rattle.tables.proofs.solve.Statement.{statement}
 use Rattle.tables.proofs.solve.Tie as tie
 

@@ -12,11 +12,13 @@ use Rattle.pf_ac.specs.Search.{Searched, searched}
 use Rattle.pf_ac.specs.Search.Space.{AlikeSearched, alike-searched}
 use Rattle.pf_ac.specs.WithStart.{acPfOf}
 use Rattle.pf_ac.specs.WithStart.Space.{acPf-space}
-use Rattle.tables.specs.Tables.{paperOf, Answer, answer, Outs, lengthsIn, checkedOf, zeros, ranOf, runOf, afterRun, solveOf}
-use Rattle.tables.specs.Tables.Laws.{met, one-per-bus, solve-refused}
-use Rattle.tables.specs.declared.Checked.{Checked}
-use Rattle.tables.specs.declared.Checked.the-variants as Checked
-use Rattle.tables.specs.declared.Outcome.{Outcome}
+use Rattle.outcome.specs.Outcome.{paperOf, Outs, lengthsIn, zeros}
+use Rattle.tables.specs.Tables.{Answer, answer, checkedOf, ranOf, runOf, afterRun, solveOf}
+use Rattle.outcome.specs.Outcome.Laws.{one-per-bus}
+use Rattle.tables.specs.Tables.Laws.{met, solve-refused}
+use Rattle.outcome.specs.declared.Checked.{Checked}
+use Rattle.outcome.specs.declared.Checked.the-variants as Checked
+use Rattle.outcome.specs.declared.Outcome.{Outcome}
 
 -- where the checks are met, zeros are left in the workspace
 pub ready-zeros : (start : AcStart) (t : Network) (o : Outs) (w : List Float) → Checked.Ready ≡ checkedOf t (lengthsIn o) (length w)

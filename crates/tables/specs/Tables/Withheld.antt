@@ -15,10 +15,11 @@ use Rattle.starts.specs.declared.AcStart.{AcStart}
 use Rattle.pf_ac.specs.declared.AcPf.the-variants as AcPf
 use Rattle.pf_ac.specs.Search.{Searched}
 use Rattle.pf_ac.specs.WithStart.Withheld.{Alike, withheld}
-use Rattle.tables.specs.Tables.{ok, Outs, lengthsIn, checkedOf, withAnswer, Ran, ran, ranOf, runOf, answer, afterRun, afterCheck, solveOf}
+use Rattle.outcome.specs.Outcome.{ok, Outs, lengthsIn, withAnswer}
+use Rattle.tables.specs.Tables.{checkedOf, Ran, ran, ranOf, runOf, answer, afterRun, afterCheck, solveOf}
 use Rattle.tables.specs.Tables.Laws.{met}
-use Rattle.tables.specs.declared.Checked.{Checked}
-use Rattle.tables.specs.declared.Checked.the-variants as Checked
+use Rattle.outcome.specs.declared.Checked.{Checked}
+use Rattle.outcome.specs.declared.Checked.the-variants as Checked
 
 module _ (start : AcStart) (t u : Network) (a : Alike start t u) (o : Outs) (w : List Float) where
   -- the checks read lengths, and whole columns that agree

@@ -1,7 +1,7 @@
--- `tables::row_refusal` meets its contract, table by table. Assumes nothing.
+-- `outcome::row_refusal` meets its contract, table by table. Assumes nothing.
 use borrow.Author.Needs.{needs}
-use Rattle.tables.proofs.row_refusal.Statement.{statement}
-use Rattle.tables.proofs.row_refusal.Tie as tie
+use Rattle.outcome.proofs.row_refusal.Statement.{statement}
+use Rattle.outcome.proofs.row_refusal.Tie as tie
 
 returns : tie.Need-returns
 returns c = rw (c .enum-told .given .1)

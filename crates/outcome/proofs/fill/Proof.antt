@@ -1,4 +1,4 @@
--- `tables::fill` meets its contract: the places passed are copied. Assumes nothing.
+-- `outcome::fill` meets its contract: the places passed are copied. Assumes nothing.
 use Prim.Native.Nat.{_-_}
 use mathlib.Core.Path.{_≡_, refl}
 use native.Mathlib.Omega.{arith}
@@ -6,8 +6,8 @@ use borrow.Author.Needs.{needs}
 use lib.ListN.{length, getD, length-set}
 use lib.Ieee.{nan}
 use Rattle.layout.specs.Table.Laws.{Stored, stored-none, stored-next, stored-all}
-use Rattle.tables.proofs.fill.Statement.{statement}
-use Rattle.tables.proofs.fill.Tie as tie
+use Rattle.outcome.proofs.fill.Statement.{statement}
+use Rattle.outcome.proofs.fill.Tie as tie
 
 abbrev Inv-loop : tie.InvT-loop
 Inv-loop n out₀ from b₀ out b = (length out ≡ length out₀) × Stored (λ i. getD from i nan) out₀ n b out

@@ -1,8 +1,8 @@
--- `tables::roomy` meets its contract, by those of its calls. Assumes nothing.
+-- `outcome::roomy` meets its contract, by those of its calls. Assumes nothing.
 use borrow.Author.Needs.{needs}
-use Rattle.tables.specs.Tables.{roomy}
-use Rattle.tables.proofs.roomy.Statement.{statement}
-use Rattle.tables.proofs.roomy.Tie as tie
+use Rattle.outcome.specs.Outcome.{roomy}
+use Rattle.outcome.proofs.roomy.Statement.{statement}
+use Rattle.outcome.proofs.roomy.Tie as tie
 
 returns : tie.Need-returns
 unfolding roomy

@@ -1,12 +1,12 @@
--- `tables::fill_bytes` meets its contract: the places passed are copied. Assumes nothing.
+-- `outcome::fill_bytes` meets its contract: the places passed are copied. Assumes nothing.
 use Prim.Native.Nat.{_-_}
 use mathlib.Core.Path.{_≡_, refl}
 use native.Mathlib.Omega.{arith}
 use borrow.Author.Needs.{needs}
 use lib.ListN.{length, getD, length-set}
 use Rattle.layout.specs.Table.Laws.{Stored, stored-none, stored-next, stored-all}
-use Rattle.tables.proofs.fill_bytes.Statement.{statement}
-use Rattle.tables.proofs.fill_bytes.Tie as tie
+use Rattle.outcome.proofs.fill_bytes.Statement.{statement}
+use Rattle.outcome.proofs.fill_bytes.Tie as tie
 
 abbrev Inv-loop : tie.InvT-loop
 Inv-loop n out₀ from b₀ out b = (length out ≡ length out₀) × Stored (λ i. getD from i 0) out₀ n b out

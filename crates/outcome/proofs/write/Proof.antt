@@ -1,7 +1,7 @@
--- `tables::write` meets its contract: a solved one is written, any other leaves the columns. Assumes nothing.
+-- `outcome::write` meets its contract: a solved one is written, any other leaves the columns. Assumes nothing.
 use borrow.Author.Needs.{needs}
-use Rattle.tables.proofs.write.Statement.{statement}
-use Rattle.tables.proofs.write.Tie as tie
+use Rattle.outcome.proofs.write.Statement.{statement}
+use Rattle.outcome.proofs.write.Tie as tie
 
 returns : tie.Need-returns
 returns c =

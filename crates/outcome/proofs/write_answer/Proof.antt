@@ -1,8 +1,8 @@
--- `tables::write_answer` meets its contract, column by column. Assumes nothing.
+-- `outcome::write_answer` meets its contract, column by column. Assumes nothing.
 use borrow.Author.Needs.{needs}
-use Rattle.tables.specs.Tables.Laws.{answer-written}
-use Rattle.tables.proofs.write_answer.Statement.{statement}
-use Rattle.tables.proofs.write_answer.Tie as tie
+use Rattle.outcome.specs.Outcome.Laws.{answer-written}
+use Rattle.outcome.proofs.write_answer.Statement.{statement}
+use Rattle.outcome.proofs.write_answer.Tie as tie
 
 -- ---- the place after each column, from the next one's argument
 

@@ -1,7 +1,7 @@
--- `tables::bus_refusal` meets its contract: a row's refusal, or none. Assumes nothing.
+-- `outcome::bus_refusal` meets its contract: a row's refusal, or none. Assumes nothing.
 use borrow.Author.Needs.{needs}
-use Rattle.tables.proofs.bus_refusal.Statement.{statement}
-use Rattle.tables.proofs.bus_refusal.Tie as tie
+use Rattle.outcome.proofs.bus_refusal.Statement.{statement}
+use Rattle.outcome.proofs.bus_refusal.Tie as tie
 
 returns : tie.Need-returns
 returns c = rw (c .before .before .m .given .1, c .row-refusal .ensures)

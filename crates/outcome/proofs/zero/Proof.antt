@@ -1,4 +1,4 @@
--- `tables::zero` meets its contract: the places passed are +0.0. Assumes nothing.
+-- `outcome::zero` meets its contract: the places passed are +0.0. Assumes nothing.
 use Prim.Native.Nat.{ℕ, _-_, _≤_}
 use mathlib.Core.Path.{_≡_, ap, _∙_}
 use native.Mathlib.Omega.{arith}
@@ -7,9 +7,9 @@ use borrow.Author.Needs.{needs}
 use lib.ListN.{length, length-set}
 use Rattle.real.specs.Literals.{nought}
 use Rattle.layout.specs.Table.{stores}
-use Rattle.tables.specs.Tables.Laws.{zeros-are}
-use Rattle.tables.proofs.zero.Statement.{statement}
-use Rattle.tables.proofs.zero.Tie as tie
+use Rattle.outcome.specs.Outcome.Laws.{zeros-are}
+use Rattle.outcome.proofs.zero.Statement.{statement}
+use Rattle.outcome.proofs.zero.Tie as tie
 
 abbrev Inv-loop : tie.InvT-loop
 Inv-loop w₀ i₀ i-end w i = (i ≤ i-end) × (i-end ≡ length w₀) × (length w ≡ length w₀) × (w ≡ stores (λ b. nought) i w₀)
