@@ -20,23 +20,24 @@ use Rattle.injections.specs.declared.Derivatives.{Derivatives}
 use Rattle.network.specs.Network.{Triplets}
 use Rattle.injections.specs.Injections.{rowOf, colOf, entryOf, at}
 
--- a triplet on the diagonal, of admittance y: v the bus's voltage, c its current, u its voltage of magnitude one.
--- ((j v) conj(c - y v)) and ((v conj(y)) conj(u)) + (conj(c) u)
-abbrev pub onDiagonal : Complex → Complex → Complex → Complex → Derivatives
-onDiagonal y v c u =
-    record {
-      dva = productOf (productOf i v) (conjugateOf (differenceOf c (productOf y v)));
-      dvm = sumOf (productOf (productOf v (conjugateOf y)) (conjugateOf u)) (productOf (conjugateOf c) u);
-    }
+-- by an angle, of a triplet on the diagonal: y its admittance, v the bus's voltage, c its current. (j v) conj(c - y v)
+abbrev pub angleOn : Complex → Complex → Complex → Complex
+angleOn y v c = productOf (productOf i v) (conjugateOf (differenceOf c (productOf y v)))
 
--- a triplet off the diagonal: v the voltage at its row, vk that at its column, u that of magnitude one at its column.
--- (((-j) v) conj(y vk)) and ((v conj(y)) conj(u))
+-- of a triplet off the diagonal: v the voltage at its row, vk that at its column. ((-j) v) conj(y vk)
+abbrev pub angleOff : Complex → Complex → Complex → Complex
+angleOff y v vk = productOf (productOf (negationOf i) v) (conjugateOf (productOf y vk))
+
+-- by a magnitude: u the voltage of magnitude one at its column. (v conj(y)) conj(u)
+abbrev pub magnitudePart : Complex → Complex → Complex → Complex
+magnitudePart y v u = productOf (productOf v (conjugateOf y)) (conjugateOf u)
+
+-- on the diagonal conj(c) u is added to that
+abbrev pub onDiagonal : Complex → Complex → Complex → Complex → Derivatives
+onDiagonal y v c u = record { dva = angleOn y v c; dvm = sumOf (magnitudePart y v u) (productOf (conjugateOf c) u) }
+
 abbrev pub offDiagonal : Complex → Complex → Complex → Complex → Derivatives
-offDiagonal y v vk u =
-    record {
-      dva = productOf (productOf (negationOf i) v) (conjugateOf (productOf y vk));
-      dvm = productOf (productOf v (conjugateOf y)) (conjugateOf u);
-    }
+offDiagonal y v vk u = record { dva = angleOff y v vk; dvm = magnitudePart y v u }
 
 -- the two derivatives of a triplet at row a and column b
 unfoldable pub derivativesOf : ℕ → ℕ → Complex → Complex → Complex → Complex → Complex → Derivatives

@@ -5,7 +5,7 @@ ghost use lib.ListN.{length, getD};
 ghost use Rattle.network.specs.Below.{Below};
 ghost use Rattle.network.specs.Network.{Triplets, tripletsOf};
 ghost use Rattle.injections.specs.Injections.{GoodTriplets, voltagesOf, currentsTo, phasorsOf, injectedOf, injectionsOf};
-ghost use Rattle.injections.specs.Jacobian.{onDiagonal, offDiagonal, derivativesOf, entered, enteredRow, enteredAll, jacobianOf};
+ghost use Rattle.injections.specs.Jacobian.{angleOn, angleOff, magnitudePart, onDiagonal, offDiagonal, derivativesOf, entered, enteredRow, enteredAll, jacobianOf};
 use complex::Complex;
 use layout::AcPfLayout;
 
@@ -148,30 +148,45 @@ pub fn ac_injections(
 
 // ---- the Jacobian
 
-// At a triplet on the diagonal: v, c and u are its bus's voltage, current and voltage of magnitude one.
+// By an angle: v is the bus's voltage, c its current.
+fn angle_on_diagonal(y: Complex, v: Complex, c: Complex) -> Complex
+    ensures { λ r. ⌜ r ≡ angleOn y v c ⌝ }
+{
+    let against = c.difference(y.product(v)).conjugate();
+    Complex::I.product(v).product(against)
+}
+
+// v is the voltage at the triplet's row, vk that at its column.
+fn angle_off_diagonal(y: Complex, v: Complex, vk: Complex) -> Complex
+    ensures { λ r. ⌜ r ≡ angleOff y v vk ⌝ }
+{
+    let against = y.product(vk).conjugate();
+    Complex::I.negation().product(v).product(against)
+}
+
+// By a magnitude: u is the voltage of magnitude one at the triplet's column.
+fn magnitude_part(y: Complex, v: Complex, u: Complex) -> Complex
+    ensures { λ r. ⌜ r ≡ magnitudePart y v u ⌝ }
+{
+    let y_conj = y.conjugate();
+    let u_conj = u.conjugate();
+    v.product(y_conj).product(u_conj)
+}
+
 fn on_diagonal(y: Complex, v: Complex, c: Complex, u: Complex) -> Derivatives
     ensures { λ r. ⌜ r ≡ onDiagonal y v c u ⌝ }
 {
-    let j = Complex::I;
-    let against = c.difference(y.product(v)).conjugate();
-    let dva = j.product(v).product(against);
-    let y_conj = y.conjugate();
-    let u_conj = u.conjugate();
-    let own = v.product(y_conj).product(u_conj);
+    let dva = angle_on_diagonal(y, v, c);
+    let own = magnitude_part(y, v, u);
     let dvm = own.sum(c.conjugate().product(u));
     Derivatives { dva, dvm }
 }
 
-// At any other: v is the voltage at its row, vk that at its column, u that of magnitude one at its column.
 fn off_diagonal(y: Complex, v: Complex, vk: Complex, u: Complex) -> Derivatives
     ensures { λ r. ⌜ r ≡ offDiagonal y v vk u ⌝ }
 {
-    let j = Complex::I;
-    let against = y.product(vk).conjugate();
-    let dva = j.negation().product(v).product(against);
-    let y_conj = y.conjugate();
-    let u_conj = u.conjugate();
-    let dvm = v.product(y_conj).product(u_conj);
+    let dva = angle_off_diagonal(y, v, vk);
+    let dvm = magnitude_part(y, v, u);
     Derivatives { dva, dvm }
 }
 

@@ -5,11 +5,8 @@ use Rattle.number_vectors.proofs.mix_holds.Tie as tie
 
 returns : tie.Need-returns
 returns c =
-    let d = c .before in
-    let m = d .before in
-    let v = m .before in
-    let w = v .before in
-    rw (m .mix .ensures, d .double-at .ensures, v .word2 .ensures, w .word .ensures) at (c .same .ensures)
+    let m = c .before .before in
+    rw (m .mix .ensures, c .before .double-at .ensures, m .before .word2 .ensures, m .before .before .word .ensures) at (c .same .ensures)
 
 pub mix-holds-spec : {M : Type 1} → statement M
 mix-holds-spec =

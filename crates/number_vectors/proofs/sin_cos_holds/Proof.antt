@@ -34,24 +34,19 @@ module _ (v w : SinCos) (s t : Float) (vw : v ≡ w) where
 
 returns : tie.Need-returns
 returns c =
-    let d3 = c .before in
-    let i = d3 .before in
+    let i = c .before .before in
     let s1 = i .before in
-    let d2 = s1 .before in
-    let r = d2 .before in
-    let d1 = r .before in
-    let e = rw (d1 .double-at .ensures) at (r .sin-cos .ensures) in
-    both (r .sin-cos .result) _ _ _ e _ (rw (d2 .double-at2 .ensures) at (s1 .same .ensures .0 (i .if1 .taken)))
-    (rw (d3 .double-at3 .ensures) at (c .same2 .ensures))
+    let r = s1 .before .before in
+    let e = rw (r .before .double-at .ensures) at (r .sin-cos .ensures) in
+    both (r .sin-cos .result) _ _ _ e _ (rw (s1 .before .double-at2 .ensures) at (s1 .same .ensures .0 (i .if1 .taken)))
+    (rw (c .before .double-at3 .ensures) at (c .same2 .ensures))
 
 returns-2 : tie.Need-returns-2
 returns-2 c =
     let s1 = c .before in
-    let d2 = s1 .before in
-    let r = d2 .before in
-    let d1 = r .before in
-    let e = rw (d1 .double-at .ensures) at (r .sin-cos .ensures) in
-    fails (r .sin-cos .result) _ _ _ e (s1 .same .result) (c .if1 .left) (rw (d2 .double-at2 .ensures) at (s1 .same .ensures))
+    let r = s1 .before .before in
+    let e = rw (r .before .double-at .ensures) at (r .sin-cos .ensures) in
+    fails (r .sin-cos .result) _ _ _ e (s1 .same .result) (c .if1 .left) (rw (s1 .before .double-at2 .ensures) at (s1 .same .ensures))
 
 pub sin-cos-holds-spec : {M : Type 1} → statement M
 sin-cos-holds-spec =
