@@ -14,7 +14,7 @@ use Rattle.layout.proofs.Examples.{angle-columns-of-svqq, magnitude-columns-of-
 use Rattle.fields.proofs.Examples.{minus-zero, minus-quarter, point-last}
 use Rattle.case_text.proofs.Examples.{point-text, point-edition, point-refused}
 use Rattle.lines.specs.Lines.{decimalBy, printedValues, refusedLine}
-use Rattle.answer.specs.TextAnswer.{blank, afterFirst, textAnswerBy}
+use Rattle.answered.specs.TextAnswer.{blank, afterFirst, textAnswerBy}
 use Rattle.report.specs.Report.{Report, blanks, reported, reportBy, reportOf}
 use Rattle.report.proofs.Examples.{listing-reported}
 use Rattle.desk.specs.Examples.{Value, bytes, numbers, reals, field, solve, Hold, table}

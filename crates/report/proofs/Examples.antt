@@ -13,7 +13,7 @@ use Rattle.case_text.proofs.Examples.{listing, listing-contents, listing-tables
 use Rattle.outcome.specs.Outcome.{ok, lengthsIn, roomy, zeros}
 use Rattle.tables.proofs.Examples as Solved
 use Rattle.lines.specs.Lines.{decimalBy, printedReal, okLine, busLine, busLines}
-use Rattle.answer.specs.TextAnswer.{blank, afterFirst, textAnswerBy}
+use Rattle.answered.specs.TextAnswer.{blank, afterFirst, textAnswerBy}
 use Rattle.report.specs.Report.{blanks, printedOf, reported, reportBy, reportOf}
 
 -- `ok 0 0000000000000000`

@@ -12,7 +12,7 @@ use Rattle.trailer.specs.Trailer.{editionOf}
 use Rattle.trailer.specs.declared.Edition.{Edition}
 use Rattle.case_text.specs.declared.Contents.{Contents}
 use Rattle.outcome.specs.Outcome.{Outs, outs}
-use Rattle.answer.specs.TextAnswer.{TextAnswer, textAnswerBy}
+use Rattle.answered.specs.TextAnswer.{TextAnswer, textAnswerBy}
 use Rattle.lines.specs.Lines.{okLine, busLines, refusedLine, Wrote}
 
 -- the buffer that a report is written into

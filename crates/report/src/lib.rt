@@ -1,5 +1,5 @@
 // The report: from the bytes of a case text to the bytes that the solve program prints.
-use answer::Answered;
+use answered::Answered;
 use case_text::Reading;
 use outcome::Outcome;
 use real::Value;
@@ -8,7 +8,7 @@ ghost use lib.ListN.{length};
 ghost use Rattle.io.specs.Counts.{Counts};
 ghost use Rattle.case_text.specs.Answer as Reader;
 ghost use Rattle.outcome.specs.Outcome.{outs, lengthsIn, OnePerBus, paperOf};
-ghost use Rattle.answer.specs.TextAnswer.{busesIn, paperIn};
+ghost use Rattle.answered.specs.TextAnswer.{busesIn, paperIn};
 ghost use Rattle.lines.specs.Lines.{Wrote};
 ghost use Rattle.report.specs.Report.{bufferSize, printedOf, refusalOf, reportOf, Reported};
 

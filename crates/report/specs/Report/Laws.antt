@@ -24,8 +24,8 @@ use Rattle.case_text.specs.Answer as Reader
 use Rattle.pf_ac.specs.WithStart.Withheld.{Alike}
 use Rattle.outcome.specs.Outcome.{Outs, lengthsIn, roomy}
 use Rattle.branch_tables.specs.BranchTables.Withheld.{AlikeBranches}
-use Rattle.answer.specs.TextAnswer.{textAnswer, unread, afterFirst, afterSecond, textAnswerOf}
-use Rattle.answer.specs.TextAnswer.Laws.{textGives, answer-never-7-9, answer-withheld, answer-branches-withheld, text-space, answer-kept, answer-before}
+use Rattle.answered.specs.TextAnswer.{textAnswer, unread, afterFirst, afterSecond, textAnswerOf}
+use Rattle.answered.specs.TextAnswer.Laws.{textGives, answer-never-7-9, answer-withheld, answer-branches-withheld, text-space, answer-kept, answer-before}
 use Rattle.lines.specs.Lines.{Wrote}
 use Rattle.report.specs.Report.{blanks, Report, printedOf, refusalOf, reported, reportBy, reportOf, Reported}
 

@@ -17,8 +17,8 @@ use Rattle.case_text.specs.Answer as Reader
 use Rattle.outcome.specs.Outcome.{Outs, paperOf}
 use Rattle.tables.specs.Tables.{Answer, solveOf}
 use Rattle.branch_tables.specs.BranchTables.{solveBranchesOf}
-use Rattle.answer.specs.declared.Answered.{Answered}
-use Rattle.answer.specs.declared.Answered.the-variants as Answered
+use Rattle.answered.specs.declared.Answered.{Answered}
+use Rattle.answered.specs.declared.Answered.the-variants as Answered
 
 -- columns of each table's full size, which the reader is lent
 abbrev pub blank : Network

@@ -48,7 +48,7 @@ use Rattle.branch_tables.specs.BranchTables.{thenFault, builtNetwork, solveBran
 use Rattle.branch_tables.specs.BranchTables.Laws.{branches-never-7-9}
 use Rattle.branch_tables.specs.BranchTables.Withheld.{AlikeBranches, branches-withheld}
 use Rattle.branch_tables.specs.BranchTables.Space.{branches-answer-space, branches-columns-space}
-use Rattle.answer.specs.TextAnswer.{blank, blankBranches, TextAnswer, textAnswer, told, unread, afterFirst, afterSecond, textAnswerBy, textAnswerOf}
+use Rattle.answered.specs.TextAnswer.{blank, blankBranches, TextAnswer, textAnswer, told, unread, afterFirst, afterSecond, textAnswerBy, textAnswerOf}
 
 -- ---- refusals 7 and 9
 

@@ -1,9 +1,9 @@
--- `answer::solve_branch_rows` meets its contract: each column is cut to its rows, for which it has room. Assumes nothing.
+-- `second_answer::solve_branch_rows` meets its contract: each column is cut to its rows, for which it has room. Assumes nothing.
 use mathlib.Core.Path.{sym}
 use borrow.Author.Needs.{needs}
 use lib.Seq.{length-take-le}
-use Rattle.answer.proofs.solve_branch_rows.Statement.{statement}
-use Rattle.answer.proofs.solve_branch_rows.Tie as tie
+use Rattle.second_answer.proofs.solve_branch_rows.Statement.{statement}
+use Rattle.second_answer.proofs.solve_branch_rows.Tie as tie
 
 -- ---- the start, seen from each column that is cut
 

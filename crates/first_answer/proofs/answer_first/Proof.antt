@@ -1,8 +1,8 @@
--- `answer::answer_first` meets its contract: a reader's refusal is the answer; of a good text it is the solve of its rows. Assumes nothing.
+-- `first_answer::answer_first` meets its contract: a reader's refusal is the answer; of a good text it is the solve of its rows. Assumes nothing.
 use borrow.Author.Needs.{needs}
-use Rattle.answer.proofs.Ways.{first-unread, first-few, first-room, first-read}
-use Rattle.answer.proofs.answer_first.Statement.{statement}
-use Rattle.answer.proofs.answer_first.Tie as tie
+use Rattle.first_answer.proofs.Ways.{first-unread, first-few, first-room, first-read}
+use Rattle.first_answer.proofs.answer_first.Statement.{statement}
+use Rattle.first_answer.proofs.answer_first.Tie as tie
 
 -- ---- where the text was read, seen from where its answer is known
 

@@ -1,8 +1,8 @@
--- `answer::answer_second` meets its contract: a reader's refusal is the answer; of a good text it is the solve of its rows. Assumes nothing.
+-- `second_answer::answer_second` meets its contract: a reader's refusal is the answer; of a good text it is the solve of its rows. Assumes nothing.
 use borrow.Author.Needs.{needs}
-use Rattle.answer.proofs.Ways.{second-unread, second-few, second-room, second-read}
-use Rattle.answer.proofs.answer_second.Statement.{statement}
-use Rattle.answer.proofs.answer_second.Tie as tie
+use Rattle.second_answer.proofs.Ways.{second-unread, second-few, second-room, second-read}
+use Rattle.second_answer.proofs.answer_second.Statement.{statement}
+use Rattle.second_answer.proofs.answer_second.Tie as tie
 
 -- ---- where the text was read, seen from where its answer is known
 

@@ -1,10 +1,10 @@
--- `answer::solve_rows` meets its contract: each column is cut to its rows, for which it has room. Assumes nothing.
+-- `first_answer::solve_rows` meets its contract: each column is cut to its rows, for which it has room. Assumes nothing.
 use mathlib.Core.Path.{sym}
 use native.Mathlib.Omega.{arith}
 use borrow.Author.Needs.{needs}
 use lib.Seq.{length-take-le}
-use Rattle.answer.proofs.solve_rows.Statement.{statement}
-use Rattle.answer.proofs.solve_rows.Tie as tie
+use Rattle.first_answer.proofs.solve_rows.Statement.{statement}
+use Rattle.first_answer.proofs.solve_rows.Tie as tie
 
 returns : tie.Need-returns
 returns c = c .before .before .before .before .before .before .before .before .before .before .before .before .solve .ensures
