@@ -16,6 +16,7 @@ use Rattle.layout.specs.Table.{table}
 abbrev pub none : ℕ
 none = 64
 
+-- the angle, and not the magnitude
 abbrev pub isAngle : Unknown → Bool
 isAngle Angle = true
 isAngle Magnitude = false
@@ -26,11 +27,12 @@ has u Slack = false
 has u Pv = isAngle u
 has u Pq = true
 
--- the number of what is unknown; and the next one
+-- c is the column of what is unknown; what is known has none
 abbrev pub number : Bool → ℕ → ℕ
 number true c = c
 number false c = none
 
+-- and the next column
 abbrev pub after : Bool → ℕ → ℕ
 after true c = c + 1
 after false c = c
@@ -52,6 +54,7 @@ abbrev pub firstOf : Unknown → ℕ → List BusKind → ℕ
 firstOf Angle n kinds = 0
 firstOf Magnitude n kinds = countTo Angle kinds 0 n
 
+-- the layout of the first n buses of these kinds; its size is the number of all columns
 unfoldable pub layoutOf : ℕ → List BusKind → AcPfLayout
 layoutOf n kinds =
     record {

@@ -87,6 +87,7 @@ pub fn default_kinds(n: usize, kind: &[u8], slacks: &[usize]) -> [BusKind; 32]
 
 // ---- columns
 
+// The unknown of a V bus.
 fn is_angle(u: Unknown) -> bool
     ensures { λ r. ⌜ r ≡ isAngle u ⌝ }
 {
@@ -107,12 +108,14 @@ fn has(u: Unknown, k: BusKind) -> bool
     }
 }
 
+// The column of an unknown, or none.
 fn number(has: bool, col: usize) -> usize
     ensures { λ r. ⌜ r ≡ number has col ⌝ }
 {
     if has { col } else { NONE }
 }
 
+// The next column.
 fn after(has: bool, col: usize) -> usize
     requires { ⌜ col ≤ 64 ⌝ }
     ensures { λ r. ⌜ (r ≡ after has col) × (r ≤ col + 1) ⌝ }
@@ -126,6 +129,7 @@ struct Columns {
     next: usize,
 }
 
+// Gives the buses that have this unknown their columns, in bus order from first on.
 fn numbers(u: Unknown, n: usize, kinds: [BusKind; 32], first: usize) -> Columns
     requires { ⌜ (n ≤ 32) × (first ≤ 32) ⌝ }
     ensures { λ r. ⌜ (r .of ≡ table n none (numberAt u kinds first)) × (r .next ≡ countTo u kinds first n) × (r .next ≤ first + n) ⌝ }

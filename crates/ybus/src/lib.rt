@@ -227,6 +227,7 @@ fn with_branches(n: usize, m: usize, y: [Admittance; 64], parts: Parts) -> Parts
     Parts { re, im }
 }
 
+// The list of entries that the branches make: a diagonal entry for each bus, then two entries for each branch.
 pub fn build_ybus(
     n: usize,
     from: &[usize],
@@ -289,6 +290,7 @@ fn row_fault(row: usize, tap: f64) -> Fault
     Fault::Tap(row)
 }
 
+// The lowest branch at fault, if any: its tap is not above zero, or its ends are one bus.
 pub fn branch_fault(from: &[usize], to: &[usize], tap: &[f64]) -> Fault
     requires { ⌜ (length (now to) ≡ length (now from)) × (length (now tap) ≡ length (now from)) ⌝ }
     ensures { λ r. ⌜ r ≡ faultOf (branchesOf (now (from .entry)) (now (to .entry))) (now (tap .entry)) ⌝ }
