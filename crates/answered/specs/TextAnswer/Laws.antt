@@ -10,7 +10,7 @@ use lib.ListN.{length}
 use lib.Ieee.{Float}
 use Rattle.real.specs.Paper.{Paper, given, refused, onGiven}
 use Rattle.network.specs.declared.Rows.{Rows}
-use Rattle.network.specs.Network.{Network, busCount, AtMost, roomOf, rowCounts, fitsOf, firstRows}
+use Rattle.network.specs.Network.{Network, busCount, AtMost, roomOf, fitsOf, firstRows}
 use Rattle.network.specs.Network.Laws.{at-most-fits}
 use Rattle.network.specs.BranchTable.{BranchNetwork, branchRoomOf, withTriplets, noTriplets, firstBranchRows}
 use Rattle.network.specs.BranchTable.Laws.{first-branches-counted, first-values-counted, first-branch-buses}

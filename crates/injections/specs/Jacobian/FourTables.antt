@@ -10,7 +10,7 @@ use Rattle.layout.specs.FourTables.Laws.{SameAnswers}
 use Rattle.network.specs.Network.{Triplets}
 use Rattle.injections.specs.declared.Phasors.{Phasors}
 use Rattle.injections.specs.Jacobian as Two
-use Rattle.injections.specs.Jacobian.{Places, jacobianTo}
+use Rattle.injections.specs.Jacobian.{jacobianTo}
 
 abbrev pub jacobianOf : Triplets → List Float → Phasors → FourTables → List Float → List Float
 jacobianOf y va s l w = jacobianTo (length (y .row)) y va s (record { p-row = pRow l; q-row = qRow l; va-col = vaCol l; vm-col = vmCol l }) w

@@ -3,8 +3,7 @@
 use Prim.Native.Nat.{ℕ, zero, suc}
 use mathlib.Core.Path.{_≡_, refl, ap, _∙_}
 use mathlib.Core.List.{List}
-use lib.ListN.{getD, replicate}
-use lib.Ieee.{Float}
+use lib.ListN.{replicate}
 use Rattle.layout.specs.declared.BusKind.{BusKind}
 use Rattle.layout.specs.declared.BusKind.the-variants.{Slack, Pv, Pq}
 use Rattle.layout.specs.declared.Unknown.the-variants.{Angle, Magnitude}
