@@ -219,6 +219,19 @@ fn list(net: &AcNetwork) -> Vec<(usize, usize, Complex<f64>)> {
     diagonal.into_iter().enumerate().map(|(bus, y)| (bus, bus, y)).chain(between).collect()
 }
 
+// A solved case, whose `ends` gives the voltage and the current of each end of a branch.
+struct Solved<'a> {
+    net: &'a AcNetwork,
+    vm: &'a [f64],
+    va: &'a [f64],
+}
+
+// Request 5 of document 02: P and Q entering at the from end and at the to end, and the loss, P at the from end plus P at the to end.
+fn flow(solved: &Solved, e: usize) -> [f64; 5] {
+    let [from, to] = solved.ends(e).map(|(v, i)| v * i.conj());
+    [from.re, from.im, to.re, to.im, from.re + to.re]
+}
+
 pub fn answer(text: &[u8]) -> String {
     let (mut net, start) = match read(text) {
         Err((number, place)) => return format!("refused {number} {place}\n"),
@@ -241,6 +254,11 @@ pub fn answer(text: &[u8]) -> String {
                     BusKind::Pq => 'Q',
                 };
                 out += &format!("{b} {kind} {} {} {} {}\n", printed(s.vm[b]), printed(s.va[b]), printed(s.p[b]), printed(s.q[b]));
+            }
+            let solved = Solved { net: &net, vm: &s.vm, va: &s.va };
+            for e in 0..net.tap.len() {
+                let [p_from, q_from, p_to, q_to, loss] = flow(&solved, e).map(printed);
+                out += &format!("{e} {p_from} {q_from} {p_to} {q_to} {loss}\n");
             }
             out
         }

@@ -3,8 +3,8 @@
 
 Usage: python3 oracle/make_oracle.py PATH_TO_SRC [OUT] [--num-complex CRATES]
 PATH_TO_SRC holds crates/tellegen/src/.. of eigenergy/tellegen; OUT is target/oracle.
-Writes OUT/altered.rs (find and dense_islands of islands.rs, branch_admittance of ac.rs, all of pf_ac.rs, changed only as listed in CHANGES and COUNTERS) and
-builds OUT/oracle and OUT/oracle_platform (the same with the platform's sine and cosine). None of the repository's text is kept here.
+Writes OUT/altered.rs (find and dense_islands of islands.rs, branch_admittance of ac.rs, the currents of flow_partials of sens/ac.rs, all of pf_ac.rs, changed
+only as listed in CHANGES, CURRENTS and COUNTERS) and builds OUT/oracle and OUT/oracle_platform (the same with the platform's sine and cosine). None of the repository's text is kept here.
 Writes OUT/uncounted.rs too, the same without COUNTERS, for the benchmark.
 With --num-complex it builds OUT/oracle_num_complex too: the platform's sine and cosine, and the crate num_complex itself in place of complex.rs.
 CRATES is a folder with the sources of num-complex and num-traits (Debian: librust-num-complex-dev puts them in /usr/share/cargo/registry).
@@ -26,6 +26,12 @@ CHANGES = [
      "use crate::formulation::{AcPolar, Formulation};\nuse crate::model::islands::dense_islands;\nuse crate::model::AcNetwork;\nuse crate::solve::solve_sparse;\n", ""),
     ("a refusal gives the mismatch and the starts as numbers, not as text", "    start: AcStart,\n) -> Result<AcPfSolution, String> {", "    start: AcStart,\n) -> Result<AcPfSolution, (f64, usize)> {"),
     ("the same", "        return Err(format!(\n            \"AC power flow did not converge: best mismatch {residual:.3e} over {start_count} starts\"\n        ));", "        return Err((residual, start_count));"),
+]
+
+# The same of the currents at the ends of a branch in sens/ac.rs. What follows them there are derivatives.
+CURRENTS = [
+    ("a unit phasor of the derivatives is not worked out", "        let vhat_f = Complex::from_polar(1.0, self.va[f]);\n", ""),
+    ("the same", "        let vhat_t = Complex::from_polar(1.0, self.va[t]);\n", ""),
 ]
 
 # Observation only: counters that the solver never reads.
@@ -57,18 +63,24 @@ def take(text, start, end):
     return text[i:text.index(end, i) + len(end)]
 
 
+def changed(text, changes):
+    for what, old, new in changes:
+        if text.count(old) != 1:
+            sys.exit(f"{text.count(old)} places for: {what}")
+        text = text.replace(old, new)
+    return text
+
+
 def altered(src, changes):
     """The repository's part of the program."""
     islands = open(os.path.join(src, "model", "islands.rs")).read()
     ac = open(os.path.join(src, "model", "ac.rs")).read()
-    pf_ac = open(os.path.join(src, "problem", "pf_ac.rs")).read()
-    for what, old, new in changes:
-        if pf_ac.count(old) != 1:
-            sys.exit(f"{pf_ac.count(old)} places for: {what}")
-        pf_ac = pf_ac.replace(old, new)
-    pf_ac = re.sub(r"^//!.*\n", "", pf_ac, flags=re.M)
+    sens = open(os.path.join(src, "sens", "ac.rs")).read()
+    pf_ac = re.sub(r"^//!.*\n", "", changed(open(os.path.join(src, "problem", "pf_ac.rs")).read(), changes), flags=re.M)
+    currents = changed(take(take(sens, "fn flow_partials", "\n    }\n"), "        let (f, t) =", "let i_t = ytf * vf + ytt * vt;\n"), CURRENTS)
+    currents = "impl Solved<'_> {\n    fn ends(&self, e: usize) -> [(Complex<f64>, Complex<f64>); 2] {\n" + currents + "        [(vf, i_f), (vt, i_t)]\n    }\n}\n"
     admittance = "impl AcNetwork {\n    " + take(ac, "pub(crate) fn branch_admittance", "\n    }\n") + "}\n"
-    return take(islands, "fn find(parent", "\n}\n") + take(islands, "pub(crate) fn dense_islands", "\n}\n") + admittance + pf_ac
+    return take(islands, "fn find(parent", "\n}\n") + take(islands, "pub(crate) fn dense_islands", "\n}\n") + admittance + currents + pf_ac
 
 
 def own(name):
@@ -105,7 +117,7 @@ def main():
     src = os.path.join(args.src, "crates", "tellegen", "src")
     write(os.path.join(args.out, "uncounted.rs"), own("complex.rs"), altered(src, CHANGES))
     part = altered(src, CHANGES + COUNTERS)
-    print(f"{len(CHANGES) + len(COUNTERS)} changes")
+    print(f"{len(CHANGES) + len(CURRENTS) + len(COUNTERS)} changes")
     source = os.path.join(args.out, "altered.rs")
     write(source, own("complex.rs"), part)
     rustc(source, os.path.join(args.out, "oracle"), "--edition", "2021")
