@@ -108,7 +108,7 @@ fn branch_at(
     }
 }
 
-fn admittances(
+pub fn admittances(
     g: &[f64],
     b: &[f64],
     g_fr: &[f64],
