@@ -12,11 +12,13 @@ ghost use lib.ListN.{length};
 ghost use lib.Ieee.{Float};
 ghost use Rattle.network.specs.Network.{Network, busCount, busesOf, slacksOf, generatorsOf, branchesOf, networkOf};
 ghost use Rattle.network.specs.Checks.{WellIndexed};
-ghost use Rattle.network.specs.BranchTable.{BranchNetwork, valuesOf, branchTableOf, branchNetworkOf, noTriplets};
+ghost use Rattle.network.specs.BranchTable.{BranchNetwork, valuesOf, branchTableOf, branchNetworkOf};
 ghost use Rattle.ybus.specs.Ybus.{Filled, listIn};
 ghost use Rattle.outcome.specs.Outcome.{Outs, outs, OnePerBus, lengthsOf, lengthsIn, paperOf};
-ghost use Rattle.tables.specs.Tables.{checkedOf, runOf, answer, afterRun};
-ghost use Rattle.branch_tables.specs.BranchTables.{faultRefusal, checkedBranchesOf, builtNetwork, ReadyBranches, solveBranchesOf};
+ghost use Rattle.flows.specs.declared.Flows.{Flows};
+ghost use Rattle.flows.specs.Flows.{flowsOf, flowsRoom};
+ghost use Rattle.tables.specs.Tables.{runOf, answer, afterRun};
+ghost use Rattle.branch_tables.specs.BranchTables.{faultRefusal, checkedRows, checkedBranchesOf, ReadyBranches, branchAnswer, ranBranches, solveBranchesOf};
 
 // ---- the checks
 
@@ -31,68 +33,35 @@ fn fault_refusal(f: Fault) -> Checked
     }
 }
 
-// Refusals 7, 9, 8, 11 and 12 of tables without triplets.
-fn check_bare(
-    kind: &[u8],
-    vm_set: &[f64],
-    pd: &[f64],
-    qd: &[f64],
-    pg: &[f64],
-    qg: &[f64],
-    vm_case: &[f64],
-    va_case: &[f64],
+// 8, 11 and 12 of rows that name a missing bus, then 14 and 15.
+fn check_rows(
+    n: usize,
     slacks: &[usize],
-    va_slacks: &[f64],
     gen_bus: &[usize],
-    qmin: &[f64],
-    qmax: &[f64],
     from: &[usize],
     to: &[usize],
-    vm: usize,
-    va: usize,
-    p: usize,
-    q: usize,
-    kinds: usize,
-    w: usize,
+    tap: &[f64],
 ) -> Checked
-    ensures { λ r.
-        let t = networkOf
-        (busesOf (now (kind .entry)) (now («vm_set» .entry)) (now (pd .entry)) (now (qd .entry)) (now (pg .entry)) (now (qg .entry)) (now («vm_case» .entry)) (now («va_case» .entry)))
-        (slacksOf (now (slacks .entry)) (now («va_slacks» .entry)))
-        (generatorsOf (now («gen_bus» .entry)) (now (qmin .entry)) (now (qmax .entry)))
-        (branchesOf (now (from .entry)) (now (to .entry))) noTriplets in
-        ⌜ r ≡ checkedOf t (lengthsOf vm va p q kinds) w ⌝ }
+    requires { ⌜ (length (now to) ≡ length (now from)) × (length (now tap) ≡ length (now from)) ⌝ }
+    ensures { λ r. ⌜ r ≡ checkedRows n (now (slacks .entry)) (now («gen_bus» .entry)) (branchesOf (now (from .entry)) (now (to .entry))) (now (tap .entry)) ⌝ }
 {
-    tables::check(
-        kind,
-        vm_set,
-        pd,
-        qd,
-        pg,
-        qg,
-        vm_case,
-        va_case,
+    let c = outcome::bus_refusal(network::missing_bus(
+        n,
         slacks,
-        va_slacks,
         gen_bus,
-        qmin,
-        qmax,
         from,
         to,
         &from[..0],
         &from[..0],
-        &vm_set[..0],
-        &vm_set[..0],
-        vm,
-        va,
-        p,
-        q,
-        kinds,
-        w,
-    )
+    ));
+    match c {
+        Checked::Ready => fault_refusal(ybus::branch_fault(from, to, tap)),
+        Checked::Refused(r) => Checked::Refused(r),
+    }
 }
 
-// The refusals before 10, in their order. The last six are the lengths of the answer columns and of the workspace.
+// The refusals before 10, in their order. The last seven are the lengths of the answer columns of buses, the fewest places of a column of the flows, and the
+// length of the workspace.
 fn check_branches(
     kind: &[u8],
     vm_set: &[f64],
@@ -123,6 +92,7 @@ fn check_branches(
     p: usize,
     q: usize,
     kinds: usize,
+    places: usize,
     w: usize,
 ) -> Checked
     ensures { λ r.
@@ -132,38 +102,41 @@ fn check_branches(
         (generatorsOf (now («gen_bus» .entry)) (now (qmin .entry)) (now (qmax .entry)))
         (branchTableOf (branchesOf (now (from .entry)) (now (to .entry)))
         (valuesOf (now (g .entry)) (now (b .entry)) (now («g_fr» .entry)) (now («b_fr» .entry)) (now («g_to» .entry)) (now («b_to» .entry)) (now (tap .entry)) (now (shift .entry)) (now (sw .entry)))) in
-        ⌜ r ≡ checkedBranchesOf t (lengthsOf vm va p q kinds) w ⌝ }
+        ⌜ r ≡ checkedBranchesOf t (lengthsOf vm va p q kinds) places w ⌝ }
 {
-    if !network::values_counted(from.len(), g, b, g_fr, b_fr, g_to, b_to, tap, shift, sw) {
+    let counts = real::and(
+        network::values_counted(from.len(), g, b, g_fr, b_fr, g_to, b_to, tap, shift, sw),
+        network::counted(
+            kind,
+            vm_set,
+            pd,
+            qd,
+            pg,
+            qg,
+            vm_case,
+            va_case,
+            slacks,
+            va_slacks,
+            gen_bus,
+            qmin,
+            qmax,
+            from,
+            to,
+            &from[..0],
+            &from[..0],
+            &vm_set[..0],
+            &vm_set[..0],
+        ),
+    );
+    if !counts {
         return Checked::Refused(Outcome::Counts);
     }
-    let c = check_bare(
-        kind,
-        vm_set,
-        pd,
-        qd,
-        pg,
-        qg,
-        vm_case,
-        va_case,
-        slacks,
-        va_slacks,
-        gen_bus,
-        qmin,
-        qmax,
-        from,
-        to,
-        vm,
-        va,
-        p,
-        q,
-        kinds,
-        w,
-    );
-    match c {
-        Checked::Ready => fault_refusal(ybus::branch_fault(from, to, tap)),
-        Checked::Refused(r) => Checked::Refused(r),
+    let n = kind.len();
+    let room = real::and(outcome::roomy(n, vm, va, p, q, kinds, w), from.len() <= places);
+    if !room {
+        return Checked::Refused(Outcome::Room);
     }
+    check_rows(n, slacks, gen_bus, from, to, tap)
 }
 
 // ---- the solve of ready tables
@@ -244,7 +217,7 @@ fn solve_list(
     )
 }
 
-// With the list built from the branches.
+// With the list built from the branches, and the flows where it is solved.
 fn solve_built(
     kind: &[u8],
     vm_set: &[f64],
@@ -276,9 +249,14 @@ fn solve_built(
     p: &mut [f64],
     q: &mut [f64],
     kinds: &mut [u8],
+    pf: &mut [f64],
+    qf: &mut [f64],
+    pt: &mut [f64],
+    qt: &mut [f64],
+    loss: &mut [f64],
     w: &mut [f64],
 ) -> Outcome
-    ghost { BranchNetwork × Outs × List Float }
+    ghost { BranchNetwork × Outs × Flows × List Float }
     requires { λ α. ⌜ (
       branchNetworkOf
           (busesOf (now kind) (now «vm_set») (now pd) (now qd) (now pg) (now qg) (now «vm_case») (now «va_case»))
@@ -287,12 +265,14 @@ fn solve_built(
           (branchTableOf (branchesOf (now from) (now to))
           (valuesOf (now g) (now b) (now «g_fr») (now «b_fr») (now «g_to») (now «b_to») (now tap) (now shift) (now sw))),
       outs (now vm) (now va) (now p) (now q) (now kinds),
+      flowsOf (now pf) (now qf) (now pt) (now qt) (now loss),
       now w,
     ) ≡ α ⌝ }
-    requires { λ (t, o, space). ⌜ ReadyBranches t (lengthsIn o) (length space) ⌝ }
-    ensures { λ (t, o, space) r.
+    requires { λ (t, o, f, space). ⌜ ReadyBranches t (lengthsIn o) (flowsRoom f) (length space) ⌝ }
+    ensures { λ (t, o, f, space) r.
         let e = outs (now (vm .exit)) (now (va .exit)) (now (p .exit)) (now (q .exit)) (now (kinds .exit)) in
-        ⌜ answer (paperOf r) e (now (w .exit)) ≡ afterRun (builtNetwork t) o (runOf start (builtNetwork t) space) ⌝ }
+        let g = flowsOf (now (pf .exit)) (now (qf .exit)) (now (pt .exit)) (now (qt .exit)) (now (loss .exit)) in
+        ⌜ branchAnswer (answer (paperOf r) e (now (w .exit))) g ≡ ranBranches start t o f space ⌝ }
 {
     let y = ybus::build_ybus(
         kind.len(),
@@ -308,7 +288,7 @@ fn solve_built(
         shift,
         sw,
     );
-    solve_list(
+    let r = solve_list(
         kind,
         vm_set,
         pd,
@@ -332,7 +312,31 @@ fn solve_built(
         q,
         kinds,
         w,
-    )
+    );
+    if !outcome::solved(r) {
+        return r;
+    }
+    flows::write_flows(
+        from,
+        to,
+        g,
+        b,
+        g_fr,
+        b_fr,
+        g_to,
+        b_to,
+        tap,
+        shift,
+        sw,
+        vm,
+        va,
+        pf,
+        qf,
+        pt,
+        qt,
+        loss,
+    );
+    r
 }
 
 // ---- the call
@@ -368,6 +372,11 @@ pub fn solve(
     p: &mut [f64],
     q: &mut [f64],
     kinds: &mut [u8],
+    pf: &mut [f64],
+    qf: &mut [f64],
+    pt: &mut [f64],
+    qt: &mut [f64],
+    loss: &mut [f64],
     w: &mut [f64],
 ) -> Outcome
     ensures { λ r.
@@ -379,8 +388,11 @@ pub fn solve(
         (valuesOf (now (g .entry)) (now (b .entry)) (now («g_fr» .entry)) (now («b_fr» .entry)) (now («g_to» .entry)) (now («b_to» .entry)) (now (tap .entry)) (now (shift .entry)) (now (sw .entry)))) in
         let o = outs (now (vm .entry)) (now (va .entry)) (now (p .entry)) (now (q .entry)) (now (kinds .entry)) in
         let e = outs (now (vm .exit)) (now (va .exit)) (now (p .exit)) (now (q .exit)) (now (kinds .exit)) in
-        ⌜ answer (paperOf r) e (now (w .exit)) ≡ solveBranchesOf start t o (now (w .entry)) ⌝ }
+        let f = flowsOf (now (pf .entry)) (now (qf .entry)) (now (pt .entry)) (now (qt .entry)) (now (loss .entry)) in
+        let g = flowsOf (now (pf .exit)) (now (qf .exit)) (now (pt .exit)) (now (qt .exit)) (now (loss .exit)) in
+        ⌜ branchAnswer (answer (paperOf r) e (now (w .exit))) g ≡ solveBranchesOf start t o f (now (w .entry)) ⌝ }
 {
+    let places = flows::fewest(pf.len(), qf.len(), pt.len(), qt.len(), loss.len());
     let c = check_branches(
         kind,
         vm_set,
@@ -411,6 +423,7 @@ pub fn solve(
         p.len(),
         q.len(),
         kinds.len(),
+        places,
         w.len(),
     );
     match c {
@@ -445,6 +458,11 @@ pub fn solve(
             p,
             q,
             kinds,
+            pf,
+            qf,
+            pt,
+            qt,
+            loss,
             w,
         ),
         Checked::Refused(r) => r,

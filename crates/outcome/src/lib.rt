@@ -9,6 +9,7 @@ ghost use Prim.Native.Nat.{_≤_};
 ghost use lib.ListN.{length, getD};
 ghost use lib.Ieee.{nan};
 ghost use Rattle.layout.specs.Table.{stores};
+ghost use Rattle.real.specs.Paper.{isGiven};
 ghost use Rattle.network.specs.Network.{Triplets, tripletsOf};
 ghost use Rattle.injections.specs.Injections.{GoodTriplets};
 ghost use Rattle.outcome.specs.Outcome.{paperOf, Outs, outs, OnePerBus, lengthsOf, lengthsIn, roomy, rowRefusal, busRefusal, withAnswer, zeros, written, writeOf};
@@ -27,6 +28,16 @@ pub enum Outcome {
     Tap { row: usize },
     Ends { row: usize },
     NotConverged { mismatch: f64, starts: usize },
+}
+
+// Whether the tables were solved.
+pub fn solved(r: Outcome) -> bool
+    ensures { λ b. ⌜ b ≡ isGiven (paperOf r) ⌝ }
+{
+    match r {
+        Outcome::Solved { .. } => true,
+        _ => false,
+    }
 }
 
 // ---- the checks

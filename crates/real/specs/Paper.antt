@@ -1,5 +1,6 @@
 -- 01, "Tables and sizes": an answer as the table of refusals tells it.
 use Prim.Native.Nat.{ℕ}
+use mathlib.Core.Bool.{Bool, true, false}
 use mathlib.Core.List.{List, [], _∷_}
 use Rattle.real.specs.declared.Value.{Value}
 use Rattle.real.specs.declared.Value.the-variants.{Whole, Real}
@@ -19,3 +20,6 @@ pub data Paper (A : Type 0) : Type 0 where
 abbrev pub onGiven : {A B : Type 0} → Paper A → (A → B) → B → B
 onGiven (given a) f z = f a
 onGiven (refused number values) f z = z
+
+abbrev pub isGiven : {A : Type 0} → Paper A → Bool
+isGiven r = onGiven r (λ a. true) false

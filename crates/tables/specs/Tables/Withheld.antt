@@ -23,7 +23,7 @@ use Rattle.outcome.specs.declared.Checked.the-variants as Checked
 
 module _ (start : AcStart) (t u : Network) (a : Alike start t u) (o : Outs) (w : List Float) where
   -- the checks read lengths, and whole columns that agree
-  counted-same : counted t ≡ counted u
+  pub counted-same : counted t ≡ counted u
   unfolding counted
   counted-same = λ i.
       let b = a .buses in
@@ -39,7 +39,7 @@ module _ (start : AcStart) (t u : Network) (a : Alike start t u) (o : Outs) (w :
   buses-same = ap length (a .buses .kind)
 
   -- and so the same row is told
-  missing-same : missingIn t ≡ missingIn u
+  pub missing-same : missingIn t ≡ missingIn u
   unfolding missingIn
   missing-same = λ i. missingBy (buses-same i) (a .slacks i .bus) (a .generators .bus i) (a .branches i .from) (a .branches i .to) (a .triplets i .row) (a .triplets i .col)
 
