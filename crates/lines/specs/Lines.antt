@@ -34,14 +34,28 @@ printedValue (Real x) = (32 ∷ []) ++ printedReal x
 unfoldable pub okLine : ℕ → Float → List ℕ
 okLine iterations residual = (111 ∷ 107 ∷ []) ++ printedValue (Whole iterations) ++ printedValue (Real residual) ++ (10 ∷ [])
 
+-- four reals, each after a space
+unfoldable pub fourReals : Float → Float → Float → Float → List ℕ
+fourReals a b c d = printedValue (Real a) ++ printedValue (Real b) ++ printedValue (Real c) ++ printedValue (Real d)
+
 -- "Then per bus: number, kind (S, V, Q), vm, va, p, q."
 unfoldable pub busLine : ℕ → ℕ → Float → Float → Float → Float → List ℕ
-busLine bus kind vm va p q = printedDecimal bus ++ (32 ∷ []) ++ (kind ∷ []) ++ printedValue (Real vm) ++ printedValue (Real va) ++ printedValue (Real p) ++ printedValue (Real q) ++ (10 ∷ [])
+busLine bus kind vm va p q = printedDecimal bus ++ (32 ∷ []) ++ (kind ∷ []) ++ fourReals vm va p q ++ (10 ∷ [])
 
 -- the lines of the first n buses
 unfoldable pub busLines : ℕ → List Float → List Float → List Float → List Float → List ℕ → List ℕ
 busLines zero vm va p q kinds = []
 busLines (suc b) vm va p q kinds = busLines b vm va p q kinds ++ busLine b (getD kinds b 0) (getD vm b nan) (getD va b nan) (getD p b nan) (getD q b nan)
+
+-- 02, Ask 5: "one line per branch after the bus lines: row, from-end P and Q, to-end P and Q, loss"
+unfoldable pub branchLine : ℕ → Float → Float → Float → Float → Float → List ℕ
+branchLine row pf qf pt qt loss = printedDecimal row ++ fourReals pf qf pt qt ++ printedValue (Real loss) ++ (10 ∷ [])
+
+-- the lines of the first n branches
+unfoldable pub branchLines : ℕ → List Float → List Float → List Float → List Float → List Float → List ℕ
+branchLines zero pf qf pt qt loss = []
+branchLines (suc e) pf qf pt qt loss =
+    branchLines e pf qf pt qt loss ++ branchLine e (getD pf e nan) (getD qf e nan) (getD pt e nan) (getD qt e nan) (getD loss e nan)
 
 unfoldable pub printedValues : List Value → List ℕ
 printedValues [] = []

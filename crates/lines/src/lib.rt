@@ -4,7 +4,7 @@ ghost use mathlib.Core.List.{[], _∷_};
 ghost use Prim.Native.Nat.{_+_, _*_, _≤_};
 ghost use lib.ListN.{length};
 ghost use Rattle.real.specs.declared.Value.the-variants.{Whole, Real};
-ghost use Rattle.lines.specs.Lines.{Wrote, printedDecimal, printedReal, printedValue, okLine, busLine, busLines, headOf, refusedLine};
+ghost use Rattle.lines.specs.Lines.{Wrote, printedDecimal, printedReal, printedValue, okLine, fourReals, busLine, busLines, branchLine, branchLines, headOf, refusedLine};
 
 fn put(src: &[u8], at: usize, out: &mut [u8]) -> usize
     requires { ⌜ at + length (now src) ≤ length (now out) ⌝ }
@@ -87,6 +87,17 @@ pub fn put_ok(iterations: usize, residual: f64, out: &mut [u8]) -> usize
     put_byte(b'\n', c, out)
 }
 
+// Four reals, each after a space.
+fn put_four(a: f64, b: f64, c: f64, d: f64, at: usize, out: &mut [u8]) -> usize
+    requires { ⌜ at + 68 ≤ length (now out) ⌝ }
+    ensures { λ r. ⌜ Wrote (now (out .entry)) at (fourReals a b c d) r (now (out .exit)) × (r ≤ at + 68) ⌝ }
+{
+    let i = put_gap(a, at, out);
+    let j = put_gap(b, i, out);
+    let k = put_gap(c, j, out);
+    put_gap(d, k, out)
+}
+
 // The line of a bus.
 fn put_bus(
     bus: usize,
@@ -104,11 +115,8 @@ fn put_bus(
     let a = put_decimal(bus, at, out);
     let b = put_byte(b' ', a, out);
     let c = put_byte(kind, b, out);
-    let d = put_gap(vm, c, out);
-    let e = put_gap(va, d, out);
-    let f = put_gap(p, e, out);
-    let g = put_gap(q, f, out);
-    put_byte(b'\n', g, out)
+    let d = put_four(vm, va, p, q, c, out);
+    put_byte(b'\n', d, out)
 }
 
 // The lines of the first n buses.
@@ -128,6 +136,47 @@ pub fn put_buses(
     let mut k = at;
     for b in 0..n {
         k = put_bus(b, kinds[b], vm[b], va[b], p[b], q[b], k, out);
+    }
+    k
+}
+
+// The line of a branch.
+fn put_branch(
+    row: usize,
+    pf: f64,
+    qf: f64,
+    pt: f64,
+    qt: f64,
+    loss: f64,
+    at: usize,
+    out: &mut [u8],
+) -> usize
+    requires { ⌜ at + 106 ≤ length (now out) ⌝ }
+    ensures { λ r. ⌜ Wrote (now (out .entry)) at (branchLine row pf qf pt qt loss) r (now (out .exit)) × (r ≤ at + 106) ⌝ }
+{
+    let a = put_decimal(row, at, out);
+    let b = put_four(pf, qf, pt, qt, a, out);
+    let c = put_gap(loss, b, out);
+    put_byte(b'\n', c, out)
+}
+
+// The lines of the first n branches.
+pub fn put_branches(
+    n: usize,
+    pf: [f64; 64],
+    qf: [f64; 64],
+    pt: [f64; 64],
+    qt: [f64; 64],
+    loss: [f64; 64],
+    at: usize,
+    out: &mut [u8],
+) -> usize
+    requires { ⌜ (n ≤ 64) × (at + 106 * n ≤ length (now out)) ⌝ }
+    ensures { λ r. ⌜ Wrote (now (out .entry)) at (branchLines n pf qf pt qt loss) r (now (out .exit)) × (r ≤ at + 106 * n) ⌝ }
+{
+    let mut k = at;
+    for e in 0..n {
+        k = put_branch(e, pf[e], qf[e], pt[e], qt[e], loss[e], k, out);
     }
     k
 }
