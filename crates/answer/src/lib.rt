@@ -1,10 +1,9 @@
 // The answer of a case text: the text is read by the rules of its edition, and the tables that it holds are solved.
-use answered::Answered;
+use answered::FlowAnswer;
 use trailer::Edition;
 ghost use mathlib.Core.Path.{_≡_};
-ghost use Prim.Native.Nat.{_≤_};
 ghost use Rattle.outcome.specs.Outcome.{outs};
-ghost use Rattle.answered.specs.TextAnswer.{busesIn, paperIn, textAnswer, textAnswerOf};
+ghost use Rattle.answered.specs.TextAnswer.{answeredWith, Few, textAnswerOf};
 
 // Reads a text and solves its tables, by the rules of its edition. The columns hold a solved answer.
 pub fn answer(
@@ -15,15 +14,19 @@ pub fn answer(
     q: &mut [f64; 32],
     kinds: &mut [u8; 32],
     w: &mut [f64],
-) -> Answered
+) -> FlowAnswer
     ensures { λ r.
         let o = outs (now (vm .entry)) (now (va .entry)) (now (p .entry)) (now (q .entry)) (now (kinds .entry)) in
         let e = outs (now (vm .exit)) (now (va .exit)) (now (p .exit)) (now (q .exit)) (now (kinds .exit)) in
-        ⌜ (textAnswer (busesIn r) (paperIn r) e (now (w .exit)) ≡ textAnswerOf (now (text .entry)) o (now (w .entry))) × (busesIn r ≤ 32) ⌝ }
+        ⌜ (answeredWith (r .answered) e (r .flows) (now (w .exit)) ≡ textAnswerOf (now (text .entry)) o (now (w .entry))) × Few (r .answered) ⌝ }
 {
     let x = trailer::edition_of(text);
     match x {
-        Edition::First => first_answer::answer_first(text, vm, va, p, q, kinds, w),
+        Edition::First => {
+            let answered = first_answer::answer_first(text, vm, va, p, q, kinds, w);
+            let flows = flows::blank();
+            FlowAnswer { answered, flows }
+        }
         Edition::Second => second_answer::answer_second(text, vm, va, p, q, kinds, w),
     }
 }

@@ -1,7 +1,8 @@
 -- The ways to the answer of a first-edition text: refused by the reader, or read, its rows fitting the columns. Assumes nothing.
-use Prim.Native.Nat.{ℕ, _≤_}
+use Prim.Native.Nat.{ℕ}
 use mathlib.Core.Path.{_≡_}
 use mathlib.Core.List.{List}
+use native.Mathlib.Omega.{arith}
 use lib.Ieee.{Float}
 use Rattle.network.specs.Network.{Network, AtMost, RoomFor, roomOf, firstRows}
 use Rattle.network.specs.Network.Laws.{fits-at-most, room-for}
@@ -16,12 +17,13 @@ use Rattle.case_text.proofs.Refusals.{Refused, refused-paper}
 use Rattle.case_text.proofs.Unique.{accepts, writes}
 use Rattle.outcome.specs.declared.Outcome.{Outcome}
 use Rattle.outcome.specs.Outcome.{Outs, paperOf}
+use Rattle.flows.specs.Flows.{blankFlows}
 use Rattle.tables.specs.Tables.{answer, solveOf}
 use Rattle.answered.specs.declared.Answered.the-variants as Answered
-use Rattle.answered.specs.TextAnswer.{blank, paperIn, textAnswer, textAnswerBy, firstAnswer}
+use Rattle.answered.specs.TextAnswer.{blank, answeredWith, Few, textAnswerBy, firstAnswer}
 
 module _ (s : List ℕ) (r : Reading) (read : Network) (h : Reader.readResult (Reader.paperOf r) read ≡ Reader.readFirst s blank) where
-  pub first-unread : Refused r → (o : Outs) (w : List Float) → textAnswer 0 (paperIn (Answered.Unread r)) o w ≡ firstAnswer s o w
+  pub first-unread : Refused r → (o : Outs) (w : List Float) → answeredWith (Answered.Unread r) o blankFlows w ≡ firstAnswer s o w
   unfolding textAnswerBy
   first-unread k o w = rw (← h, refused-paper r k .3)
 
@@ -30,8 +32,8 @@ module _ (s : List ℕ) (r : Reading) (read : Network) (h : Reader.readResult (R
     unfolding Reader.readFirstBy
     rows-fit = fits-at-most (c .rows) (roomOf blank) (accepts First s (roomOf blank) _ blank read r h c .0 e .1)
 
-    pub first-few : c .rows .buses ≤ 32
-    first-few = rows-fit .buses
+    pub first-few : (found : Outcome) → Few (Answered.Read (c .rows .buses) 0 found)
+    first-few found = (rows-fit .buses, omega arith)
 
     pub first-room : RoomFor (c .rows) read
     unfolding Reader.readFirstBy
@@ -39,6 +41,6 @@ module _ (s : List ℕ) (r : Reading) (read : Network) (h : Reader.readResult (R
 
     pub first-read : (o : Outs) (w : List Float) (found : Outcome) (o′ : Outs) (w′ : List Float)
         → answer (paperOf found) o′ w′ ≡ solveOf (c .start) (firstRows (c .rows) read) o w
-        → textAnswer (c .rows .buses) (paperOf found) o′ w′ ≡ firstAnswer s o w
+        → answeredWith (Answered.Read (c .rows .buses) 0 found) o′ blankFlows w′ ≡ firstAnswer s o w
     unfolding textAnswerBy
     first-read o w found o′ w′ q = rw (← h, e, ← q)

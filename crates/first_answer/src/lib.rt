@@ -6,12 +6,12 @@ use outcome::Outcome;
 use starts::AcStart;
 ghost use mathlib.Core.Path.{_≡_};
 ghost use mathlib.Core.List.{List};
-ghost use Prim.Native.Nat.{_≤_};
 ghost use lib.Ieee.{Float};
 ghost use Rattle.network.specs.Network.{Network, busesOf, slacksOf, generatorsOf, branchesOf, tripletsOf, networkOf, RoomFor, firstRows};
 ghost use Rattle.outcome.specs.Outcome.{Outs, outs, paperOf};
 ghost use Rattle.tables.specs.Tables.{answer, solveOf};
-ghost use Rattle.answered.specs.TextAnswer.{busesIn, paperIn, textAnswer, firstAnswer};
+ghost use Rattle.flows.specs.Flows.{blankFlows};
+ghost use Rattle.answered.specs.TextAnswer.{answeredWith, Few, firstAnswer};
 
 // The solve of the first rows of tables whose columns are longer.
 fn solve_rows(
@@ -106,7 +106,7 @@ pub fn answer_first(
     ensures { λ r.
         let o = outs (now (vm .entry)) (now (va .entry)) (now (p .entry)) (now (q .entry)) (now (kinds .entry)) in
         let e = outs (now (vm .exit)) (now (va .exit)) (now (p .exit)) (now (q .exit)) (now (kinds .exit)) in
-        ⌜ (textAnswer (busesIn r) (paperIn r) e (now (w .exit)) ≡ firstAnswer (now (text .entry)) o (now (w .entry))) × (busesIn r ≤ 32) ⌝ }
+        ⌜ (answeredWith r e blankFlows (now (w .exit)) ≡ firstAnswer (now (text .entry)) o (now (w .entry))) × Few r ⌝ }
 {
     let mut kind = [0u8; 32];
     let mut vm_set = [0.0; 32];
@@ -183,5 +183,5 @@ pub fn answer_first(
         kinds,
         w,
     );
-    Answered::Read(rows.buses, found)
+    Answered::Read(rows.buses, 0, found)
 }

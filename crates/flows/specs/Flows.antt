@@ -3,8 +3,9 @@
 pub mod Laws
 use Prim.Native.Nat.{ℕ, _≤_, min}
 use mathlib.Core.List.{List}
-use lib.ListN.{length}
+use lib.ListN.{length, replicate}
 use lib.Ieee.{Float, binary64, add}
+use Rattle.real.specs.Literals.{nought}
 use Rattle.complex.specs.declared.Complex.{Complex}
 use Rattle.complex.specs.Numbers.{sumOf, conjugateOf, productOf}
 use Rattle.network.specs.Network.{Branches}
@@ -43,6 +44,12 @@ flowOf y v u =
 
 abbrev pub flowsOf : List Float → List Float → List Float → List Float → List Float → Flows
 flowsOf pf qf pt qt loss = record { pf = pf; qf = qf; pt = pt; qt = qt; loss = loss }
+
+-- columns of zeros for as many branches as a case may have
+abbrev pub blankFlows : Flows
+blankFlows =
+    let x = replicate 64 nought in
+    flowsOf x x x x x
 
 -- of branch e, whose admittances are y e, at the voltages that magnitudes and angles give
 abbrev pub flowBy : Branches → (ℕ → Admittance) → List Float → List Float → ℕ → Flow

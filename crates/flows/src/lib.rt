@@ -10,7 +10,7 @@ ghost use Rattle.network.specs.Checks.{SizedBranches};
 ghost use Rattle.network.specs.BranchTable.{BranchTable, valuesOf, branchTableOf, SizedValues};
 ghost use Rattle.injections.specs.Injections.{voltageAt};
 ghost use Rattle.ybus.specs.Ybus.{admittanceAt};
-ghost use Rattle.flows.specs.Flows.{fewestOf, flowOf, flowsOf, OnePerBranch, withFlowsBy, withFlows};
+ghost use Rattle.flows.specs.Flows.{fewestOf, flowOf, flowsOf, blankFlows, OnePerBranch, withFlowsBy, withFlows};
 
 // What enters one branch: active and reactive power at its from end and at its to end; and the loss.
 pub struct Flow {
@@ -28,6 +28,20 @@ pub struct Flows {
     pub pt: [f64; 64],
     pub qt: [f64; 64],
     pub loss: [f64; 64],
+}
+
+// Zeros.
+pub fn blank() -> Flows
+    ensures { λ r. ⌜ r ≡ blankFlows ⌝ }
+{
+    let zeros = [0.0; 64];
+    Flows {
+        pf: zeros,
+        qf: zeros,
+        pt: zeros,
+        qt: zeros,
+        loss: zeros,
+    }
 }
 
 // ---- a branch

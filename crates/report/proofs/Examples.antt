@@ -12,7 +12,8 @@ use Rattle.network.specs.Network.{roomOf, fitsOf, firstRows}
 use Rattle.case_text.proofs.Examples.{listing, listing-contents, listing-tables, listing-edition, listing-read}
 use Rattle.outcome.specs.Outcome.{ok, lengthsIn, roomy, zeros}
 use Rattle.tables.proofs.Examples as Solved
-use Rattle.lines.specs.Lines.{decimalBy, printedReal, okLine, busLine, busLines}
+use Rattle.flows.specs.Flows.{blankFlows}
+use Rattle.lines.specs.Lines.{decimalBy, printedReal, okLine, fourReals, busLine, busLines, branchLines}
 use Rattle.answered.specs.TextAnswer.{blank, afterFirst, textAnswerBy}
 use Rattle.report.specs.Report.{blanks, printedOf, reported, reportBy, reportOf}
 
@@ -31,8 +32,8 @@ same-network : firstRows (listing-contents .rows) (listing-tables blank) ≡ Sol
 unfolding ofInt ofBits neg
 same-network = refl
 
-same-lines : printedOf 1 (ok 0 (double 0)) (Solved.row blanks) ≡ first-line ++ second-line
-unfolding okLine busLines busLine decimalBy printedReal isNan toBits ofInt ofBits
+same-lines : printedOf 1 0 (ok 0 (double 0)) (Solved.row blanks) blankFlows ≡ first-line ++ second-line
+unfolding okLine busLines busLine fourReals branchLines decimalBy printedReal isNan toBits ofInt ofBits
 same-lines = refl
 
 room : (w : List Float) → leb 6144 (length w) ≡ true → roomy 1 (lengthsIn blanks) (length w) ≡ true

@@ -13,11 +13,12 @@ use Rattle.trailer.specs.declared.Edition.{Edition}
 use Rattle.case_text.specs.declared.Contents.{Contents}
 use Rattle.outcome.specs.Outcome.{Outs, outs}
 use Rattle.answered.specs.TextAnswer.{TextAnswer, textAnswerBy}
-use Rattle.lines.specs.Lines.{okLine, busLines, refusedLine, Wrote}
+use Rattle.flows.specs.declared.Flows.{Flows}
+use Rattle.lines.specs.Lines.{okLine, busLines, branchLines, refusedLine, Wrote}
 
 -- the buffer that a report is written into
 abbrev pub bufferSize : ℕ
-bufferSize = 4096
+bufferSize = 10240
 
 -- the columns that the answer is lent
 abbrev pub blanks : Outs
@@ -27,10 +28,11 @@ pub record Report : Type 0 where
   pub bytes : List ℕ
   pub space : List Float
 
--- `ok` and a line per bus, or a refusal
-abbrev pub printedOf : ℕ → Paper (ℕ × Float) → Outs → List ℕ
-printedOf n (given found) o = okLine (found .0) (found .1) ++ busLines n (o .vm) (o .va) (o .p) (o .q) (o .kinds)
-printedOf n (refused number values) o = refusedLine number values
+-- `ok`, a line for each of n buses and "one line per branch after the bus lines" for each of m branches, or a refusal
+abbrev pub printedOf : ℕ → ℕ → Paper (ℕ × Float) → Outs → Flows → List ℕ
+printedOf n m (given found) o f =
+    okLine (found .0) (found .1) ++ busLines n (o .vm) (o .va) (o .p) (o .q) (o .kinds) ++ branchLines m (f .pf) (f .qf) (f .pt) (f .qt) (f .loss)
+printedOf n m (refused number values) o f = refusedLine number values
 
 -- of a text that the reader refuses; a good reading is no refusal, and 9 stands in for one
 abbrev pub refusalOf : Paper Contents → List ℕ
@@ -39,7 +41,7 @@ refusalOf (refused number values) = refusedLine number values
 
 -- an answer, printed
 abbrev pub reported : TextAnswer → Report
-reported a = record { bytes = printedOf (a .buses) (a .paper) (a .columns); space = a .space }
+reported a = record { bytes = printedOf (a .buses) (a .branches) (a .paper) (a .columns) (a .flows); space = a .space }
 
 -- by an edition's rules, its reals read by a digit rule
 unfoldable pub reportBy : DigitRule → Edition → List ℕ → List Float → Report

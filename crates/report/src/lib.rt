@@ -1,6 +1,8 @@
 // The report: from the bytes of a case text to the bytes that the solve program prints.
 use answered::Answered;
+use answered::FlowAnswer;
 use case_text::Reading;
+use flows::Flows;
 use outcome::Outcome;
 use real::Value;
 ghost use Prim.Native.Nat.{_≤_};
@@ -8,12 +10,12 @@ ghost use lib.ListN.{length};
 ghost use Rattle.io.specs.Counts.{Counts};
 ghost use Rattle.case_text.specs.Answer as Reader;
 ghost use Rattle.outcome.specs.Outcome.{outs, lengthsIn, OnePerBus, paperOf};
-ghost use Rattle.answered.specs.TextAnswer.{busesIn, paperIn};
+ghost use Rattle.answered.specs.TextAnswer.{busesIn, branchesIn, paperIn, Few};
 ghost use Rattle.lines.specs.Lines.{Wrote};
 ghost use Rattle.report.specs.Report.{bufferSize, printedOf, refusalOf, reportOf, Reported};
 
 // The buffer's bytes: enough for the longest report.
-pub const BUFFER: usize = 4096;
+pub const BUFFER: usize = 10240;
 
 // What is printed of a text that the reader refuses.
 fn put_reading(r: Reading, out: &mut [u8]) -> usize
@@ -32,21 +34,23 @@ fn put_reading(r: Reading, out: &mut [u8]) -> usize
     }
 }
 
-// What is printed of a solve.
+// What is printed of a solve of n buses that tells the flows of m branches.
 fn put_outcome(
     r: Outcome,
     n: usize,
+    m: usize,
     vm: &[f64],
     va: &[f64],
     p: &[f64],
     q: &[f64],
     kinds: &[u8],
+    f: Flows,
     out: &mut [u8],
 ) -> usize
-    requires { let o = outs (now vm) (now va) (now p) (now q) (now kinds) in ⌜ (n ≤ 32) × OnePerBus n (lengthsIn o) × (bufferSize ≤ length (now out)) ⌝ }
+    requires { let o = outs (now vm) (now va) (now p) (now q) (now kinds) in ⌜ (n ≤ 32) × (m ≤ 64) × OnePerBus n (lengthsIn o) × (bufferSize ≤ length (now out)) ⌝ }
     ensures { λ k.
         let o = outs (now (vm .entry)) (now (va .entry)) (now (p .entry)) (now (q .entry)) (now (kinds .entry)) in
-        ⌜ Wrote (now (out .entry)) 0 (printedOf n (paperOf r) o) k (now (out .exit)) × (k ≤ bufferSize) ⌝ }
+        ⌜ Wrote (now (out .entry)) 0 (printedOf n m (paperOf r) o f) k (now (out .exit)) × (k ≤ bufferSize) ⌝ }
 {
     match r {
         Outcome::Solved {
@@ -54,7 +58,8 @@ fn put_outcome(
             residual,
         } => {
             let at = lines::put_ok(iterations, residual, out);
-            lines::put_buses(n, vm, va, p, q, kinds, at, out)
+            let next = lines::put_buses(n, vm, va, p, q, kinds, at, out);
+            lines::put_branches(m, f.pf, f.qf, f.pt, f.qt, f.loss, next, out)
         }
         Outcome::Counts => lines::put_bare(7, out),
         Outcome::Room => lines::put_bare(9, out),
@@ -91,16 +96,17 @@ fn put_answer(
     p: &[f64; 32],
     q: &[f64; 32],
     kinds: &[u8; 32],
+    f: Flows,
     out: &mut [u8],
 ) -> usize
-    requires { ⌜ (busesIn a ≤ 32) × (bufferSize ≤ length (now out)) ⌝ }
+    requires { ⌜ Few a × (bufferSize ≤ length (now out)) ⌝ }
     ensures { λ k.
         let o = outs (now (vm .entry)) (now (va .entry)) (now (p .entry)) (now (q .entry)) (now (kinds .entry)) in
-        ⌜ Wrote (now (out .entry)) 0 (printedOf (busesIn a) (paperIn a) o) k (now (out .exit)) × (k ≤ bufferSize) ⌝ }
+        ⌜ Wrote (now (out .entry)) 0 (printedOf (busesIn a) (branchesIn a) (paperIn a) o f) k (now (out .exit)) × (k ≤ bufferSize) ⌝ }
 {
     match a {
         Answered::Unread(r) => put_reading(r, out),
-        Answered::Read(n, r) => put_outcome(r, n, vm, va, p, q, kinds, out),
+        Answered::Read(n, m, r) => put_outcome(r, n, m, vm, va, p, q, kinds, f, out),
     }
 }
 
@@ -115,6 +121,8 @@ pub extern "C" fn report(text: &[u8], out: &mut [u8; BUFFER], space: &mut [f64; 
     let mut p = [0.0; 32];
     let mut q = [0.0; 32];
     let mut kinds = [0u8; 32];
-    let a = answer::answer(text, &mut vm, &mut va, &mut p, &mut q, &mut kinds, space);
-    put_answer(a, &vm, &va, &p, &q, &kinds, out)
+    let r = answer::answer(text, &mut vm, &mut va, &mut p, &mut q, &mut kinds, space);
+    let a = r.answered;
+    let f = r.flows;
+    put_answer(a, &vm, &va, &p, &q, &kinds, f, out)
 }

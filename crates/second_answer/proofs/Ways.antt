@@ -1,5 +1,5 @@
 -- The same of a second-edition text. Assumes nothing.
-use Prim.Native.Nat.{ℕ, _≤_}
+use Prim.Native.Nat.{ℕ}
 use mathlib.Core.Path.{_≡_}
 use mathlib.Core.List.{List}
 use lib.Ieee.{Float}
@@ -18,13 +18,15 @@ use Rattle.case_text.proofs.Refusals.{Refused, refused-paper}
 use Rattle.case_text.proofs.Unique.{accepts, writes}
 use Rattle.outcome.specs.declared.Outcome.{Outcome}
 use Rattle.outcome.specs.Outcome.{Outs, paperOf}
+use Rattle.flows.specs.declared.Flows.{Flows}
+use Rattle.flows.specs.Flows.{blankFlows}
 use Rattle.tables.specs.Tables.{answer}
-use Rattle.branch_tables.specs.BranchTables.{solveBranchesOf}
+use Rattle.branch_tables.specs.BranchTables.{branchAnswer, solveBranchesOf}
 use Rattle.answered.specs.declared.Answered.the-variants as Answered
-use Rattle.answered.specs.TextAnswer.{blankBranches, paperIn, textAnswer, textAnswerBy, secondAnswer}
+use Rattle.answered.specs.TextAnswer.{blankBranches, answeredWith, Few, textAnswerBy, secondAnswer}
 
 module _ (s : List ℕ) (r : Reading) (read : BranchNetwork) (h : Reader.readResult (Reader.paperOf r) read ≡ Reader.readSecond s blankBranches) where
-  pub second-unread : Refused r → (o : Outs) (w : List Float) → textAnswer 0 (paperIn (Answered.Unread r)) o w ≡ secondAnswer s o w
+  pub second-unread : Refused r → (o : Outs) (w : List Float) → answeredWith (Answered.Unread r) o blankFlows w ≡ secondAnswer s o w
   unfolding textAnswerBy
   second-unread k o w = rw (← h, refused-paper r k .3)
 
@@ -33,16 +35,16 @@ module _ (s : List ℕ) (r : Reading) (read : BranchNetwork) (h : Reader.readRes
     unfolding Reader.readSecondBy
     branch-rows-fit = fits-at-most (c .rows) (branchRoomOf blankBranches) (accepts Second s (branchRoomOf blankBranches) _ blankBranches read r h c .0 e .1)
 
-    pub second-few : c .rows .buses ≤ 32
-    second-few = branch-rows-fit .buses
+    pub second-few : (found : Outcome) → Few (Answered.Read (c .rows .buses) (c .rows .branches) found)
+    second-few found = (branch-rows-fit .buses, branch-rows-fit .branches)
 
     pub second-room : RoomForBranches (c .rows) read
     unfolding Reader.readSecondBy
     second-room =
         room-for-branches (c .rows) read (rw (writes Second s (branchRoomOf blankBranches) _ blankBranches read r h c e, branch-filled-room s (trailerStart Second s) blankBranches) branch-rows-fit)
 
-    pub second-read : (o : Outs) (w : List Float) (found : Outcome) (o′ : Outs) (w′ : List Float)
-        → answer (paperOf found) o′ w′ ≡ solveBranchesOf (c .start) (firstBranchRows (c .rows) read) o w
-        → textAnswer (c .rows .buses) (paperOf found) o′ w′ ≡ secondAnswer s o w
+    pub second-read : (o : Outs) (w : List Float) (found : Outcome) (o′ : Outs) (f : Flows) (w′ : List Float)
+        → branchAnswer (answer (paperOf found) o′ w′) f ≡ solveBranchesOf (c .start) (firstBranchRows (c .rows) read) o blankFlows w
+        → answeredWith (Answered.Read (c .rows .buses) (c .rows .branches) found) o′ f w′ ≡ secondAnswer s o w
     unfolding textAnswerBy
-    second-read o w found o′ w′ q = rw (← h, e, ← q)
+    second-read o w found o′ f w′ q = rw (← h, e, ← q)

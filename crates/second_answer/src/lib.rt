@@ -1,19 +1,27 @@
 // The answer of a case text of the second edition.
 use answered::Answered;
+use answered::FlowAnswer;
 use case_text::Reading;
+use flows::Flows;
 use network::Rows;
 use outcome::Outcome;
 use starts::AcStart;
 ghost use mathlib.Core.Path.{_≡_};
 ghost use mathlib.Core.List.{List};
-ghost use Prim.Native.Nat.{_≤_};
 ghost use lib.Ieee.{Float};
 ghost use Rattle.network.specs.Network.{busesOf, slacksOf, generatorsOf, branchesOf};
 ghost use Rattle.network.specs.BranchTable.{BranchNetwork, valuesOf, branchTableOf, branchNetworkOf, RoomForBranches, firstBranchRows};
 ghost use Rattle.outcome.specs.Outcome.{Outs, outs, paperOf};
 ghost use Rattle.tables.specs.Tables.{answer};
-ghost use Rattle.branch_tables.specs.BranchTables.{solveBranchesOf};
-ghost use Rattle.answered.specs.TextAnswer.{busesIn, paperIn, textAnswer, secondAnswer};
+ghost use Rattle.branch_tables.specs.BranchTables.{branchAnswer, solveBranchesOf};
+ghost use Rattle.flows.specs.Flows.{blankFlows};
+ghost use Rattle.answered.specs.TextAnswer.{answeredWith, Few, secondAnswer};
+
+// What the solve answers, and the flows.
+struct Found {
+    outcome: Outcome,
+    flows: Flows,
+}
 
 // The solve of the first rows of tables of branches whose columns are longer; they are handed over by value.
 fn solve_branch_rows(
@@ -49,7 +57,7 @@ fn solve_branch_rows(
     q: &mut [f64],
     kinds: &mut [u8],
     w: &mut [f64],
-) -> Outcome
+) -> Found
     ghost { BranchNetwork × Outs × List Float }
     requires { λ α. ⌜ (
       branchNetworkOf
@@ -62,14 +70,20 @@ fn solve_branch_rows(
       now w,
     ) ≡ α ⌝ }
     requires { λ (t, o, space). ⌜ RoomForBranches rows t ⌝ }
-    ensures { λ (t, o, space) r. ⌜ answer (paperOf r) (outs (now (vm .exit)) (now (va .exit)) (now (p .exit)) (now (q .exit)) (now (kinds .exit)))
-        (now (w .exit)) ≡ solveBranchesOf start (firstBranchRows rows t) o space ⌝ }
+    ensures { λ (t, o, space) r.
+        let e = outs (now (vm .exit)) (now (va .exit)) (now (p .exit)) (now (q .exit)) (now (kinds .exit)) in
+        ⌜ branchAnswer (answer (paperOf (r .outcome)) e (now (w .exit))) (r .flows) ≡ solveBranchesOf start (firstBranchRows rows t) o blankFlows space ⌝ }
 {
     let n = rows.buses;
     let r = rows.slacks;
     let k = rows.generators;
     let l = rows.branches;
-    branch_tables::solve(
+    let mut pf = [0.0; 64];
+    let mut qf = [0.0; 64];
+    let mut pt = [0.0; 64];
+    let mut qt = [0.0; 64];
+    let mut loss = [0.0; 64];
+    let outcome = branch_tables::solve(
         &kind[..n],
         &vm_set[..n],
         &pd[..n],
@@ -100,8 +114,23 @@ fn solve_branch_rows(
         p,
         q,
         kinds,
+        &mut pf,
+        &mut qf,
+        &mut pt,
+        &mut qt,
+        &mut loss,
         w,
-    )
+    );
+    Found {
+        outcome,
+        flows: Flows {
+            pf,
+            qf,
+            pt,
+            qt,
+            loss,
+        },
+    }
 }
 
 // Reads a text by the second edition's rules and solves its tables.
@@ -113,11 +142,11 @@ pub fn answer_second(
     q: &mut [f64; 32],
     kinds: &mut [u8; 32],
     w: &mut [f64],
-) -> Answered
+) -> FlowAnswer
     ensures { λ r.
         let o = outs (now (vm .entry)) (now (va .entry)) (now (p .entry)) (now (q .entry)) (now (kinds .entry)) in
         let e = outs (now (vm .exit)) (now (va .exit)) (now (p .exit)) (now (q .exit)) (now (kinds .exit)) in
-        ⌜ (textAnswer (busesIn r) (paperIn r) e (now (w .exit)) ≡ secondAnswer (now (text .entry)) o (now (w .entry))) × (busesIn r ≤ 32) ⌝ }
+        ⌜ (answeredWith (r .answered) e (r .flows) (now (w .exit)) ≡ secondAnswer (now (text .entry)) o (now (w .entry))) × Few (r .answered) ⌝ }
 {
     let mut kind = [0u8; 32];
     let mut vm_set = [0.0; 32];
@@ -171,7 +200,9 @@ pub fn answer_second(
         &mut sw,
     );
     let Reading::Good(c) = read else {
-        return Answered::Unread(read);
+        let answered = Answered::Unread(read);
+        let flows = flows::blank();
+        return FlowAnswer { answered, flows };
     };
     let start = c.start;
     let rows = c.rows;
@@ -209,5 +240,8 @@ pub fn answer_second(
         kinds,
         w,
     );
-    Answered::Read(rows.buses, found)
+    let outcome = found.outcome;
+    let flows = found.flows;
+    let answered = Answered::Read(rows.buses, rows.branches, outcome);
+    FlowAnswer { answered, flows }
 }

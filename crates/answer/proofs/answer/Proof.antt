@@ -7,10 +7,10 @@ use Rattle.answer.proofs.answer.Tie as tie
 
 returns : tie.Need-returns
 returns c =
-    let a = c .before .before in
+    let a = c .before .before .before in
     let t = a .before .before .before .before .before .before .before in
     let x = t .before .before .edition-of in
-    (by-edition _ (x .result) First (x .ensures) (t .enum-told .given .1) _ _ _ (a .answer-first .ensures .0), a .answer-first .ensures .1)
+    (rw (c .blank .ensures) (by-edition _ (x .result) First (x .ensures) (t .enum-told .given .1) _ _ _ (a .answer-first .ensures .0)), a .answer-first .ensures .1)
 
 returns-2 : tie.Need-returns-2
 returns-2 c =
@@ -20,4 +20,7 @@ returns-2 c =
     (by-edition _ (x .result) Second (x .ensures) (t .enum-told2 .given .1) _ _ _ (a .answer-second .ensures .0), a .answer-second .ensures .1)
 
 pub answer-spec : {M : Type 1} → statement M
-answer-spec = tie.close (tie.spec (λ c κs. search needs) (λ c. search needs) (λ c κs. search needs) (λ c. search needs) (λ c κs. search needs) (λ c. search needs) returns (λ c. search needs) returns-2)
+answer-spec =
+    tie.close
+    (tie.spec (λ c κs. search needs) (λ c. search needs) (λ c κs. search needs) (λ c κs. search needs) (λ c. search needs) (λ c κs. search needs)
+    (λ c. c .before .before .w .given) returns (λ c. c .before .w2 .given) returns-2)

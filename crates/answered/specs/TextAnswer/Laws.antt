@@ -7,13 +7,16 @@ use mathlib.Core.Bool.{true}
 use mathlib.Core.Logic.{_⊎_, inl, inr, ⊎-elim}
 use native.Mathlib.Omega.{arith}
 use lib.ListN.{length}
+use lib.Seq.{length-take-le}
+use borrow.Author.Tests.{le-leb}
 use lib.Ieee.{Float}
 use Rattle.real.specs.Paper.{Paper, given, refused, onGiven}
+use Rattle.real.specs.Tests.{both}
 use Rattle.network.specs.declared.Rows.{Rows}
 use Rattle.network.specs.Network.{Network, busCount, AtMost, roomOf, fitsOf, firstRows}
 use Rattle.network.specs.Network.Laws.{at-most-fits}
 use Rattle.network.specs.BranchTable.{BranchNetwork, branchRoomOf, withTriplets, noTriplets, firstBranchRows}
-use Rattle.network.specs.BranchTable.Laws.{first-branches-counted, first-values-counted, first-branch-buses}
+use Rattle.network.specs.BranchTable.Laws.{room-for-branches, first-branches-counted, first-values-counted, first-branch-buses}
 use Rattle.network.specs.Checks.{sizes, counted}
 use Rattle.network.specs.Checks.Laws.{first-counted, first-buses}
 use Rattle.network.specs.Missing.{missingIn}
@@ -37,18 +40,18 @@ use Rattle.case_text.specs.Old.{accepted-first}
 use Rattle.case_text.specs.Answer as Reader
 use Rattle.case_text.specs.Answer.{withRoom, judgedOf, filledOf, branchFilledOf, resultOf, readFirstBy, readSecondBy}
 use Rattle.case_text.specs.Answer.Laws.{rows-most, filled-room, branch-filled-room}
+use Rattle.flows.specs.Flows.{blankFlows}
 use Rattle.starts.specs.declared.AcStart.{AcStart}
 use Rattle.pf_ac.specs.WithStart.Withheld.{Alike}
-use Rattle.ybus.specs.Fault.{faultOf}
 use Rattle.outcome.specs.Outcome.{Outs, lengthsIn, paperOf, roomy, rowRefusal, busRefusal}
 use Rattle.tables.specs.Tables.{checkedOf, Answer, afterCheck, solveOf}
 use Rattle.tables.specs.Tables.Withheld.{solve-withheld}
 use Rattle.tables.specs.Tables.Space.{answer-space, columns-space}
-use Rattle.branch_tables.specs.BranchTables.{thenFault, builtNetwork, solveBranchesOf}
+use Rattle.branch_tables.specs.BranchTables.{checkedRowsOf, BranchAnswer, afterBranchCheck, solveBranchesOf}
 use Rattle.branch_tables.specs.BranchTables.Laws.{branches-never-7-9}
 use Rattle.branch_tables.specs.BranchTables.Withheld.{AlikeBranches, branches-withheld}
-use Rattle.branch_tables.specs.BranchTables.Space.{branches-answer-space, branches-columns-space}
-use Rattle.answered.specs.TextAnswer.{blank, blankBranches, TextAnswer, textAnswer, told, unread, afterFirst, afterSecond, textAnswerBy, textAnswerOf}
+use Rattle.branch_tables.specs.BranchTables.Space.{branches-answer-space, branches-columns-space, branches-flows-space}
+use Rattle.answered.specs.TextAnswer.{blank, blankBranches, TextAnswer, textAnswer, told, toldBranches, unread, afterFirst, afterSecond, textAnswerBy, textAnswerOf}
 
 -- ---- refusals 7 and 9
 
@@ -84,18 +87,19 @@ unfolding solveOf checkedOf
 solve-never-7-9 start t o w h k = rw (h, k)
 
 -- of branches: 8, 11, 12, then 14 or 15, or the run; there is no triplet that could be refused with 13 (`never-13`)
-abbrev pub solvedOrAtFault : AcStart → BranchNetwork → Outs → List Float → Answer
-solvedOrAtFault start t o w =
-    afterCheck start (builtNetwork t) o w (thenFault (busRefusal (missingIn (withTriplets t noTriplets))) (faultOf (t .table .ends) (t .table .values .tap)))
+abbrev pub solvedOrAtFault : AcStart → BranchNetwork → Outs → List Float → BranchAnswer
+solvedOrAtFault start t o w = afterBranchCheck start t o blankFlows w (checkedRowsOf t)
 
 -- the answer of a text by an edition's rules: its refusal, or that of its tables, or the solved answer
-abbrev pub tablesGive : Edition → List ℕ → Outs → List Float → Contents → Answer
-tablesGive First s o w c = solvedOrMissing (c .start) (firstRows (c .rows) (filledOf s (trailerStart First s) blank)) o w
-tablesGive Second s o w c = solvedOrAtFault (c .start) (firstBranchRows (c .rows) (branchFilledOf s (trailerStart Second s) blankBranches)) o w
+abbrev pub tablesGive : Edition → List ℕ → Outs → List Float → Contents → TextAnswer
+tablesGive First s o w c = told (c .rows .buses) (solvedOrMissing (c .start) (firstRows (c .rows) (filledOf s (trailerStart First s) blank)) o w)
+tablesGive Second s o w c =
+    toldBranches (c .rows .buses) (c .rows .branches)
+    (solvedOrAtFault (c .start) (firstBranchRows (c .rows) (branchFilledOf s (trailerStart Second s) blankBranches)) o w)
 
 abbrev pub textGives : Edition → List ℕ → Outs → List Float → Reading → TextAnswer
 textGives e s o w v =
-    onGiven (Reader.paperOf v) (λ c. told (c .rows .buses) (tablesGive e s o w c)) (textAnswer 0 (unread (Reader.paperOf v)) o w)
+    onGiven (Reader.paperOf v) (tablesGive e s o w) (textAnswer 0 0 (unread (Reader.paperOf v)) o blankFlows w)
 
 module _ (s : List ℕ) (o : Outs) (w : List Float) (room : (n : ℕ) → n ≤ 32 → roomy n (lengthsIn o) (length w) ≡ true) where
   -- the first rows of tables that have room for them
@@ -104,10 +108,12 @@ module _ (s : List ℕ) (o : Outs) (w : List Float) (room : (n : ℕ) → n ≤ 
       solve-never-7-9 start (firstRows r t) o w (first-counted r t few fits) (rw (first-buses r t fits) (room (r .buses) (few .buses)))
 
   branch-rows-never-7-9 : (start : AcStart) (r : Rows) (t : BranchNetwork) → AtMost r sizes → AtMost r (branchRoomOf t)
-      → solveBranchesOf start (firstBranchRows r t) o w ≡ solvedOrAtFault start (firstBranchRows r t) o w
+      → solveBranchesOf start (firstBranchRows r t) o blankFlows w ≡ solvedOrAtFault start (firstBranchRows r t) o w
+  unfolding both
   branch-rows-never-7-9 start r t few fits =
-      branches-never-7-9 start (firstBranchRows r t) o w (first-values-counted r t few fits) (first-branches-counted r t few fits)
-      (rw (first-branch-buses r t few fits) (room (r .buses) (few .buses)))
+      let m = length-take-le (r .branches) (t .table .ends .from) (room-for-branches r t fits .table .ends .from) in
+      branches-never-7-9 start (firstBranchRows r t) o blankFlows w (rw (first-values-counted r t few fits, first-branches-counted r t few fits))
+      (rw (first-branch-buses r t few fits, room (r .buses) (few .buses), m, le-leb (r .branches) 64 (few .branches)))
 
   edition-never-7-9 : (e : Edition) → textAnswerBy allowed e s o w ≡ textGives e s o w (checkedText e s)
   unfolding textAnswerBy readFirstBy readSecondBy
@@ -127,7 +133,7 @@ module _ (s : List ℕ) (o : Outs) (w : List Float) (room : (n : ℕ) → n ≤ 
       go v (given c) k a =
           let few = rows-most Second s _ c a in
           let fits : AtMost (c .rows) (branchRoomOf (branchFilledOf s (trailerStart Second s) blankBranches)) = rw (branch-filled-room s (trailerStart Second s) blankBranches) (text-fits Second s _ c a) in
-          rw k (ap (told (c .rows .buses)) (branch-rows-never-7-9 (c .start) (c .rows) (branchFilledOf s (trailerStart Second s) blankBranches) few fits))
+          rw k (ap (toldBranches (c .rows .buses) (c .rows .branches)) (branch-rows-never-7-9 (c .start) (c .rows) (branchFilledOf s (trailerStart Second s) blankBranches) few fits))
       go v (refused number values) k a = rw k
 
   pub answer-never-7-9 : (textAnswerOf s o w ≡ textGives (editionOf s) s o w (textOf s)) × (textOf s ≡ Reading.Room → ⊥)
@@ -140,9 +146,18 @@ module _ (s : List ℕ) (o : Outs) (w : List Float) (room : (n : ℕ) → n ≤ 
   searched First c = firstRows (c .rows) (filledOf s (trailerStart First s) blank)
   searched Second c = withTriplets (firstBranchRows (c .rows) (branchFilledOf s (trailerStart Second s) blankBranches)) noTriplets
 
+  -- of how many branches a text that is read tells the flows where it is solved
+  abbrev pub branchesTold : Edition → Contents → ℕ
+  branchesTold First c = 0
+  branchesTold Second c = c .rows .branches
+
+  -- the answer that is the refusal of a row
+  abbrev pub rowRefused : Edition → Contents → Naming → ℕ → ℕ → TextAnswer
+  rowRefused e c table i j = textAnswer (c .rows .buses) (branchesTold e c) (paperOf (rowRefusal table i j)) o blankFlows w
+
   -- the refusal's row is a line of the text: the first of its section that names a missing bus, by the field told
   edition-line : (e : Edition) (c : Contents) → checkedText e s ≡ Reading.Good c → (table : Naming) (i j : ℕ) → missingIn (searched e c) ≡ MissingBus.At table i j
-      → (textAnswerBy allowed e s o w ≡ textAnswer (c .rows .buses) (paperOf (rowRefusal table i j)) o w) × LowestLine e s (trailerStart e s) table i j
+      → (textAnswerBy allowed e s o w ≡ rowRefused e c table i j) × LowestLine e s (trailerStart e s) table i j
   edition-line First c h table i j q =
       let a = accepted-has First s c h in
       (edition-never-7-9 First ∙ rw (h, q), told-line First s (trailerStart First s) _ (lines-of s (trailerStart First s) c a blank (text-fits First s _ c a)) table i j q)
@@ -151,7 +166,7 @@ module _ (s : List ℕ) (o : Outs) (w : List Float) (room : (n : ℕ) → n ≤ 
       (edition-never-7-9 Second ∙ rw (h, q), told-line Second s (trailerStart Second s) _ (branch-lines-of s (trailerStart Second s) c a blankBranches (text-fits Second s _ c a)) table i j q)
 
   pub refused-line : (c : Contents) → textOf s ≡ Reading.Good c → (table : Naming) (i j : ℕ) → missingIn (searched (editionOf s) c) ≡ MissingBus.At table i j
-      → (textAnswerOf s o w ≡ textAnswer (c .rows .buses) (paperOf (rowRefusal table i j)) o w) × LowestLine (editionOf s) s (trailerStart (editionOf s) s) table i j
+      → (textAnswerOf s o w ≡ rowRefused (editionOf s) c table i j) × LowestLine (editionOf s) s (trailerStart (editionOf s) s) table i j
   refused-line = edition-line (editionOf s)
 
 -- ---- demand 3
@@ -164,30 +179,40 @@ answer-withheld c read read′ o w a = ap (told (c .rows .buses)) (solve-withhel
 pub answer-branches-withheld : (c : Contents) (read read′ : BranchNetwork) (o : Outs) (w : List Float)
     → AlikeBranches (c .start) (firstBranchRows (c .rows) read) (firstBranchRows (c .rows) read′)
     → afterSecond (Reader.readResult (given c) read) o w ≡ afterSecond (Reader.readResult (given c) read′) o w
-answer-branches-withheld c read read′ o w a = ap (told (c .rows .buses)) (branches-withheld (c .start) _ _ a o w)
+answer-branches-withheld c read read′ o w a = ap (toldBranches (c .rows .buses) (c .rows .branches)) (branches-withheld (c .start) _ _ a o blankFlows w)
 
 -- ---- nothing that stood in the workspace shows
 
 -- answers that agree but for the workspace
 pub record SameButSpace (a b : TextAnswer) : Type 0 where
   pub buses : a .buses ≡ b .buses
+  pub branches : a .branches ≡ b .branches
   pub paper : a .paper ≡ b .paper
   pub columns : a .columns ≡ b .columns
+  pub flows : a .flows ≡ b .flows
 
 module _ (rule : DigitRule) (s : List ℕ) (o : Outs) (w v : List Float) (size : length w ≡ length v) where
   first-space : (x : Reader.ReadResult Network) → SameButSpace (afterFirst x o w) (afterFirst x o v)
   first-space (Reader.readResult (given c) read) =
-      record { buses = refl; paper = answer-space (c .start) (firstRows (c .rows) read) o w v size; columns = columns-space (c .start) (firstRows (c .rows) read) o w v size }
-  first-space (Reader.readResult (refused number values) read) = record { buses = refl; paper = refl; columns = refl }
+      record {
+        buses = refl;
+        branches = refl;
+        paper = answer-space (c .start) (firstRows (c .rows) read) o w v size;
+        columns = columns-space (c .start) (firstRows (c .rows) read) o w v size;
+        flows = refl;
+      }
+  first-space (Reader.readResult (refused number values) read) = record { buses = refl; branches = refl; paper = refl; columns = refl; flows = refl }
 
   second-space : (x : Reader.ReadResult BranchNetwork) → SameButSpace (afterSecond x o w) (afterSecond x o v)
   second-space (Reader.readResult (given c) read) =
       record {
         buses = refl;
-        paper = branches-answer-space (c .start) (firstBranchRows (c .rows) read) o w v size;
-        columns = branches-columns-space (c .start) (firstBranchRows (c .rows) read) o w v size;
+        branches = refl;
+        paper = branches-answer-space (c .start) (firstBranchRows (c .rows) read) o blankFlows w v size;
+        columns = branches-columns-space (c .start) (firstBranchRows (c .rows) read) o blankFlows w v size;
+        flows = branches-flows-space (c .start) (firstBranchRows (c .rows) read) o blankFlows w v size;
       }
-  second-space (Reader.readResult (refused number values) read) = record { buses = refl; paper = refl; columns = refl }
+  second-space (Reader.readResult (refused number values) read) = record { buses = refl; branches = refl; paper = refl; columns = refl; flows = refl }
 
   pub text-space : (e : Edition) → SameButSpace (textAnswerBy rule e s o w) (textAnswerBy rule e s o v)
   unfolding textAnswerBy

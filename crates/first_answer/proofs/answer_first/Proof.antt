@@ -87,7 +87,7 @@ returns-2 c =
     let t = told-of (v .before) in
     let r = read-of (t .before .before .before) .read-triplets in
     let e = t .before .read .given .1 in
-    (first-read _ (r .result) _ (r .ensures) _ e _ _ (v .solve-rows .result) _ _ (v .solve-rows .ensures), first-few _ (r .result) _ (r .ensures) _ e)
+    (first-read _ (r .result) _ (r .ensures) _ e _ _ (v .solve-rows .result) _ _ (v .solve-rows .ensures), first-few _ (r .result) _ (r .ensures) _ e (v .solve-rows .result))
 
 pub answer-first-spec : {M : Type 1} → statement M
 answer-first-spec =

@@ -21,24 +21,25 @@ use Rattle.case_text.specs.declared.Reading.the-variants as Reading
 use Rattle.case_text.specs.Text.{textBy, textOf}
 use Rattle.case_text.specs.Before.{MovedText}
 use Rattle.case_text.specs.Answer as Reader
+use Rattle.flows.specs.declared.Flows.{Flows}
 use Rattle.pf_ac.specs.WithStart.Withheld.{Alike}
 use Rattle.outcome.specs.Outcome.{Outs, lengthsIn, roomy}
 use Rattle.branch_tables.specs.BranchTables.Withheld.{AlikeBranches}
-use Rattle.answered.specs.TextAnswer.{textAnswer, unread, afterFirst, afterSecond, textAnswerOf}
+use Rattle.answered.specs.TextAnswer.{TextAnswer, unread, afterFirst, afterSecond, textAnswerOf}
 use Rattle.answered.specs.TextAnswer.Laws.{textGives, answer-never-7-9, answer-withheld, answer-branches-withheld, text-space, answer-kept, answer-before}
 use Rattle.lines.specs.Lines.{Wrote}
 use Rattle.report.specs.Report.{blanks, Report, printedOf, refusalOf, reported, reportBy, reportOf, Reported}
 
 -- a reader's refusal as it is printed
-pub unread-printed : (p : Paper Contents) (o : Outs) → printedOf 0 (unread p) o ≡ refusalOf p
-unread-printed (given c) o = refl
-unread-printed (refused number values) o = refl
+pub unread-printed : (p : Paper Contents) (o : Outs) (f : Flows) → printedOf 0 0 (unread p) o f ≡ refusalOf p
+unread-printed (given c) o f = refl
+unread-printed (refused number values) o f = refl
 
 -- an answer, printed, is the report
-pub printed-reported : (s : List ℕ) (w : List Float) (n : ℕ) (r : Paper (ℕ × Float)) (o : Outs) (v : List Float) → textAnswer n r o v ≡ textAnswerOf s blanks w
-    → {before after : List ℕ} {end : ℕ} → Wrote before 0 (printedOf n r o) end after → Reported (reportOf s w) before end after v
+pub printed-reported : (s : List ℕ) (w : List Float) (a : TextAnswer) → a ≡ textAnswerOf s blanks w
+    → {before after : List ℕ} {end : ℕ} → Wrote before 0 (reported a .bytes) end after → Reported (reportOf s w) before end after (a .space)
 unfolding reportBy
-printed-reported s w n r o v h p = record { written = rw (← h) p; left = ap (λ a. a .space) h }
+printed-reported s w a h p = record { written = rw (← h) p; left = ap (λ a. a .space) h }
 
 -- ---- refusals 7 and 9 are not met by a text
 
@@ -76,7 +77,7 @@ printed-branches-withheld c read read′ w a = ap reported (answer-branches-with
 
 pub report-space : (s : List ℕ) (w v : List Float) → length w ≡ length v → reportOf s w .bytes ≡ reportOf s v .bytes
 unfolding reportBy
-report-space s w v size = let a = text-space allowed s blanks w v size (editionOf s) in λ i. printedOf (a .buses i) (a .paper i) (a .columns i)
+report-space s w v size = let a = text-space allowed s blanks w v size (editionOf s) in λ i. printedOf (a .buses i) (a .branches i) (a .paper i) (a .columns i) (a .flows i)
 
 -- ---- 02, Ask 2, of what is printed
 

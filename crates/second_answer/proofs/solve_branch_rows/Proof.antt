@@ -80,7 +80,7 @@ abbrev at-sw : tie.After-sw → tie.Start
 at-sw c = at-shift (c .before)
 
 abbrev solve-of : tie.After-slice-known12 → tie.After-solve
-solve-of c = c .before .before .before .before .before .before .before .before .before .before .before .before
+solve-of c = c .before .before .before .before .before .before .before .before .before .before .before .before .before .before .before .before .before
 
 returns : tie.Need-returns
 returns c = solve-of c .solve .ensures
@@ -100,9 +100,12 @@ solve-branch-rows-spec =
     (λ c. sym (length-take-le _ _ (at-b c .pre .table .values .b))) (λ c. search needs) (λ c. sym (length-take-le _ _ (at-g-fr c .pre .table .values .g-fr))) (λ c. search needs)
     (λ c. sym (length-take-le _ _ (at-b-fr c .pre .table .values .b-fr))) (λ c. search needs) (λ c. sym (length-take-le _ _ (at-g-to c .pre .table .values .g-to))) (λ c. search needs)
     (λ c. sym (length-take-le _ _ (at-b-to c .pre .table .values .b-to))) (λ c. search needs) (λ c. sym (length-take-le _ _ (at-tap c .pre .table .values .tap))) (λ c. search needs)
-    (λ c. sym (length-take-le _ _ (at-shift c .pre .table .values .shift))) (λ c. search needs) (λ c. sym (length-take-le _ _ (at-sw c .pre .table .values .sw))) (λ c κs. search needs)
-    (λ c. solve-of c .solve .kept .1 .1 .1 .1 .1 .1 .1 .1 .1 .1 .1 .1 .1 .1 .1 .1 .1 .1 .1 .1 .1 .1 .1 .1 .1 .0)
-    (λ c. solve-of c .solve .kept .1 .1 .1 .1 .1 .1 .1 .1 .1 .1 .1 .1 .1 .1 .1 .1 .1 .1 .1 .1 .1 .1 .1 .1 .1 .1 .0)
-    (λ c. solve-of c .solve .kept .1 .1 .1 .1 .1 .1 .1 .1 .1 .1 .1 .1 .1 .1 .1 .1 .1 .1 .1 .1 .1 .1 .1 .1 .1 .1 .1 .0)
-    (λ c. solve-of c .solve .kept .1 .1 .1 .1 .1 .1 .1 .1 .1 .1 .1 .1 .1 .1 .1 .1 .1 .1 .1 .1 .1 .1 .1 .1 .1 .1 .1 .1 .0) (λ c. search needs)
-    (λ c. search needs) returns)
+    (λ c. sym (length-take-le _ _ (at-shift c .pre .table .values .shift))) (λ c. search needs) (λ c. sym (length-take-le _ _ (at-sw c .pre .table .values .sw)))
+    (λ c. search needs) (λ c. search needs) (λ c. search needs) (λ c. search needs) (λ c. search needs) (λ c κs. search needs)
+    (λ c. c .before .before .before .before .before .before .before .before .before .before .before .before .before .before .before .before .vm .given)
+    (λ c. c .before .before .before .before .before .before .before .before .before .before .before .before .before .before .va .given)
+    (λ c. c .before .before .before .before .before .before .before .before .before .before .before .before .p .given)
+    (λ c. c .before .before .before .before .before .before .before .before .before .before .q .given)
+    (λ c. c .before .before .before .before .before .before .before .before .kinds .given)
+    (λ c. c .before .w .given)
+    returns)
