@@ -132,7 +132,10 @@ fn check_branches(
         return Checked::Refused(Outcome::Counts);
     }
     let n = kind.len();
-    let room = real::and(outcome::roomy(n, vm, va, p, q, kinds, w), from.len() <= places);
+    let room = real::and(
+        outcome::roomy(n, vm, va, p, q, kinds, w),
+        from.len() <= places,
+    );
     if !room {
         return Checked::Refused(Outcome::Room);
     }

@@ -9,7 +9,7 @@ ghost use Prim.Native.Nat.{_≤_};
 ghost use lib.ListN.{length};
 ghost use Rattle.io.specs.Counts.{Counts};
 ghost use Rattle.case_text.specs.Answer as Reader;
-ghost use Rattle.outcome.specs.Outcome.{outs, lengthsIn, OnePerBus, paperOf};
+ghost use Rattle.outcome.specs.Outcome.{outs, lengthsIn, OnePerBus, ok, paperOf};
 ghost use Rattle.answered.specs.TextAnswer.{busesIn, branchesIn, paperIn, Few};
 ghost use Rattle.lines.specs.Lines.{Wrote};
 ghost use Rattle.report.specs.Report.{bufferSize, printedOf, refusalOf, reportOf, Reported};
@@ -34,6 +34,35 @@ fn put_reading(r: Reading, out: &mut [u8]) -> usize
     }
 }
 
+// What is printed of a solved case of n buses that tells the flows of m branches.
+fn put_solved(
+    iterations: usize,
+    residual: f64,
+    n: usize,
+    m: usize,
+    vm: &[f64],
+    va: &[f64],
+    p: &[f64],
+    q: &[f64],
+    kinds: &[u8],
+    f: Flows,
+    out: &mut [u8],
+) -> usize
+    requires { let o = outs (now vm) (now va) (now p) (now q) (now kinds) in ⌜ (n ≤ 32) × (m ≤ 64) × OnePerBus n (lengthsIn o) × (bufferSize ≤ length (now out)) ⌝ }
+    ensures { λ k.
+        let o = outs (now (vm .entry)) (now (va .entry)) (now (p .entry)) (now (q .entry)) (now (kinds .entry)) in
+        ⌜ Wrote (now (out .entry)) 0 (printedOf n m (ok iterations residual) o f) k (now (out .exit)) × (k ≤ bufferSize) ⌝ }
+{
+    let pf = f.pf;
+    let qf = f.qf;
+    let pt = f.pt;
+    let qt = f.qt;
+    let loss = f.loss;
+    let a = lines::put_ok(iterations, residual, out);
+    let b = lines::put_buses(n, vm, va, p, q, kinds, a, out);
+    lines::put_branches(m, pf, qf, pt, qt, loss, b, out)
+}
+
 // What is printed of a solve of n buses that tells the flows of m branches.
 fn put_outcome(
     r: Outcome,
@@ -56,11 +85,7 @@ fn put_outcome(
         Outcome::Solved {
             iterations,
             residual,
-        } => {
-            let at = lines::put_ok(iterations, residual, out);
-            let next = lines::put_buses(n, vm, va, p, q, kinds, at, out);
-            lines::put_branches(m, f.pf, f.qf, f.pt, f.qt, f.loss, next, out)
-        }
+        } => put_solved(iterations, residual, n, m, vm, va, p, q, kinds, f, out),
         Outcome::Counts => lines::put_bare(7, out),
         Outcome::Room => lines::put_bare(9, out),
         Outcome::Slack { row } => lines::put_one(8, Value::Whole(row), out),

@@ -35,10 +35,15 @@ write-flows-requires c κs =
     let u = c .before .before .before .before .before .before .before .before .before .before .before .before .before .before .before .before .before .before in
     let s = start-of (list-of l) .pre in
     let from = s .fit .from-below in
-    let to = s .fit .to-below in
-    ((s .fit .ends, s .fit .values, one-per-branch _ _ (s .flows)),
-    (λ i h. omega (arith, from i h, s .columns .vm, v .vm .given), λ i h. omega (arith, from i h, s .columns .va, u .va .given),
-    λ i h. omega (arith, to i h, s .columns .vm, v .vm .given), λ i h. omega (arith, to i h, s .columns .va, u .va .given)))
+    let to = s .fit .to-below in (
+      (s .fit .ends, s .fit .values, one-per-branch _ _ (s .flows)),
+      (
+        λ i h. omega (arith, from i h, s .columns .vm, v .vm .given),
+        λ i h. omega (arith, from i h, s .columns .va, u .va .given),
+        λ i h. omega (arith, to i h, s .columns .vm, v .vm .given),
+        λ i h. omega (arith, to i h, s .columns .va, u .va .given),
+      ),
+    )
 
 returns-2 : tie.Need-returns-2
 returns-2 c =

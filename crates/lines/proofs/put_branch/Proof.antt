@@ -12,9 +12,10 @@ returns c =
     let n = c .before .before in
     let l = n .before .before .before .before in
     let f = l .before .before .before .before in
-    let a = f .before .before .before .before in
-    (then (then (then (a .put-decimal .ensures .0) (f .put-four .ensures .0)) (l .put-gap .ensures .0)) (n .put-byte .ensures),
-    omega (arith, a .put-decimal .ensures .1, f .put-four .ensures .1, l .put-gap .ensures .1, n .put-byte .ensures .ends))
+    let a = f .before .before .before .before in (
+      then (then (then (a .put-decimal .ensures .0) (f .put-four .ensures .0)) (l .put-gap .ensures .0)) (n .put-byte .ensures),
+      omega (arith, a .put-decimal .ensures .1, f .put-four .ensures .1, l .put-gap .ensures .1, n .put-byte .ensures .ends),
+    )
 
 pub put-branch-spec : {M : Type 1} → statement M
 put-branch-spec =

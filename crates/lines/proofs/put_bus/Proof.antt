@@ -13,9 +13,10 @@ returns c =
     let f = n .before .before .before .before in
     let k = f .before .before .before .before in
     let b = k .before .before .before .before in
-    let a = b .before .before .before .before in
-    (then (then (then (then (a .put-decimal .ensures .0) (b .put-byte .ensures)) (k .put-byte2 .ensures)) (f .put-four .ensures .0)) (n .put-byte3 .ensures),
-    omega (arith, a .put-decimal .ensures .1, b .put-byte .ensures .ends, k .put-byte2 .ensures .ends, f .put-four .ensures .1, n .put-byte3 .ensures .ends))
+    let a = b .before .before .before .before in (
+      then (then (then (then (a .put-decimal .ensures .0) (b .put-byte .ensures)) (k .put-byte2 .ensures)) (f .put-four .ensures .0)) (n .put-byte3 .ensures),
+      omega (arith, a .put-decimal .ensures .1, b .put-byte .ensures .ends, k .put-byte2 .ensures .ends, f .put-four .ensures .1, n .put-byte3 .ensures .ends),
+    )
 
 pub put-bus-spec : {M : Type 1} → statement M
 put-bus-spec =

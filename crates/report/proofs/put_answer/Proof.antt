@@ -11,7 +11,7 @@ put-outcome-requires c κs =
     let s = c .before .before .before .before .before .before .before .before .before .before in
     let e = c .before .before .before .before .before .before .before .a2 .given in
     let h = rw (e .1) at (s .pre .0) in
-    (h, record { vm = omega (arith, h, c .before .before .before .before .before .put-outcome-arg .given .0); va = search needs; p = search needs; q = search needs; kinds = search needs }, s .pre .1)
+    (h .0, h .1, record { vm = omega (arith, h .0, c .before .before .before .before .before .put-outcome-arg .given .0); va = search needs; p = search needs; q = search needs; kinds = search needs }, s .pre .1)
 
 returns : tie.Need-returns
 returns c =

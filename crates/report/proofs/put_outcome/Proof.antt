@@ -1,16 +1,11 @@
 -- `report::put_outcome` meets its contract: each case by its number, a solved one with its buses. Assumes nothing.
 use native.Mathlib.Omega.{arith}
 use borrow.Author.Needs.{needs}
-use Rattle.lines.specs.Lines.Laws.{then}
 use Rattle.report.proofs.put_outcome.Statement.{statement}
 use Rattle.report.proofs.put_outcome.Tie as tie
 
 returns : tie.Need-returns
-returns c =
-    let p = c .before .before in
-    let o = p .before .before .before .before in
-    let s = o .before .before .before .before .before .before .before .before .before .before .before in
-    (rw (o .before .before .before .r .given .1) (then (o .put-ok .ensures .0) (p .put-buses .ensures .0)), omega (arith, s .pre .0, o .put-ok .ensures .1, p .put-buses .ensures .1))
+returns c = let p = c .before .before in (rw (p .before .before .before .r .given .1) (p .put-solved .ensures .0), p .put-solved .ensures .1)
 
 returns-2 : tie.Need-returns-2
 returns-2 c = let p = c .before .before in (rw (p .before .before .enum-told .given .1) (p .put-bare .ensures .0), omega (arith, p .put-bare .ensures .1))
@@ -42,7 +37,7 @@ returns-10 c = let p = c .before .before in (rw (p .before .before .before .r8 .
 pub put-outcome-spec : {M : Type 1} → statement M
 put-outcome-spec =
     tie.close
-    (tie.spec (λ c. search needs) (λ c κs. search needs) (λ c κs. search needs) (λ c. search needs) (λ c κs. search needs) (λ c. search needs)
+    (tie.spec (λ c. search needs) (λ c κs. search needs) (λ c. search needs) (λ c κs. search needs) (λ c. search needs)
     (λ c κs. search needs) (λ c. search needs) (λ c κs. search needs) (λ c. search needs) (λ c κs. search needs) (λ c. search needs)
     (λ c κs. search needs) (λ c. search needs) (λ c κs. search needs) (λ c. search needs) (λ c κs. search needs) (λ c. search needs)
     (λ c κs. search needs) (λ c. search needs) (λ c κs. search needs) (λ c. search needs) returns (λ c. search needs) returns-2 (λ c. search needs) returns-3
