@@ -83,7 +83,12 @@ def sheet(name):
 def table(name):
     yield ("case,bus,kind,vm_pu,va_degrees,load_p_mw,load_q_mvar,gen_p_mw,gen_q_mvar,qmin_mvar,room_down_mvar,qmax_mvar,room_up_mvar,remark\n")
     for figures, _, _ in rows(name, 100, 4):
-        yield f"cases/{name}.case," + ",".join(str(x) for x in figures) + "\n"
+        yield csv_row(f"cases/{name}.case", *figures)
+
+
+def csv_row(*fields):
+    """A field with a comma stands in quotes."""
+    return ",".join(f'"{x}"' if "," in str(x) else str(x) for x in fields) + "\n"
 
 
 def main():

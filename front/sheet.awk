@@ -78,15 +78,20 @@ function limit(list, b) { return b in list ? power(list[b]) : "" }
 
 function room(x) { return x == "" ? "" : power(x) }
 
-function csv_rows(    b, unit, quoted) {
+function csv_rows(    b, unit) {
     unit = base ? "_mw" : "_pu"
     if (!headed) print "case,bus,kind,vm_pu,va_degrees,load_p" unit ",load_q" var(unit) ",gen_p" unit ",gen_q" var(unit) ",qmin" var(unit) ",room_down" var(unit) \
         ",qmax" var(unit) ",room_up" var(unit) ",remark"
-    quoted = name
-    if (quoted ~ /[",]/) { gsub(/"/, "\"\"", quoted); quoted = "\"" quoted "\"" }
     for (b = 0; b < buses; b++)
-        print quoted "," b "," letter[b] "," decimals(vm[b], 6) "," angle(va[b]) "," power(load_p[b]) "," power(load_q[b]) "," power(generated_p(b)) "," \
-            power(generated_q(b)) "," limit(low, b) "," room(room_down(b)) "," limit(high, b) "," room(room_up(b)) "," remark(b)
+        print quoted(name) "," b "," letter[b] "," decimals(vm[b], 6) "," angle(va[b]) "," power(load_p[b]) "," power(load_q[b]) "," power(generated_p(b)) "," \
+            power(generated_q(b)) "," limit(low, b) "," room(room_down(b)) "," limit(high, b) "," room(room_up(b)) "," quoted(remark(b))
+}
+
+# A field of CSV, in quotes where it needs them.
+function quoted(s) {
+    if (s !~ /[",]/) return s
+    gsub(/"/, "\"\"", s)
+    return "\"" s "\""
 }
 
 function var(unit) { return unit == "_mw" ? "_mvar" : unit }
