@@ -17,9 +17,9 @@ FNR == 1 {
     next
 }
 
-FNR - 2 >= buses + 0 { # a branch, of which tables.awk counts the first as 1 and the answer as 0
+FNR - 2 >= buses + 0 { # a branch, the first of which is 1 in tables.awk and 0 in the answer
     k = ++flows
-    if (letters != second_edition || k > lines || NF != 6 || $1 != (k - 1 "")) { wrong = 1; exit }
+    if (NF != 6 || $1 != (k - 1 "")) { wrong = 1; exit }
     for (n = 2; n <= 6; n++) if (!is_printed($n)) { wrong = 1; exit }
     from_p[k] = real($2)
     from_q[k] = real($3)
