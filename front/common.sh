@@ -44,12 +44,13 @@ take() { # CASE
 }
 
 # Puts what the program prints of $work/text into $work/answer, and what it is into `verdict`: ok, or refused.
-# The program has no exit status. So that no answer counts which a full disk has cut off, it must end in LF and have as many lines as belong to it.
+# The program has no exit status. So that no answer counts which a full disk has cut off, it must end in LF and have as many lines as belong to it: that of a
+# solved case one for each bus and one for each branch below the first. (A solved case of L and Y lines has no K line.)
 answer() {
     run_program <"$work/text" >"$work/answer" 2>"$work/said"
     verdict=$(sed -n '1s/ .*//p' "$work/answer")
     case $verdict in
-        ok) lines=$(($(grep -c '^B ' "$work/text") + 1)) ;;
+        ok) lines=$(($(grep -c '^[BK] ' "$work/text") + 1)) ;;
         refused) lines=1 ;;
         *) lines='' ;;
     esac

@@ -129,10 +129,11 @@ def answers(oracle, batch):
 
 
 def solution(answer):
-    """Iterations, kinds and the columns vm, va, p and q of a solved answer; None of a refusal."""
+    """Iterations, kinds and the columns vm, va, p and q of a solved answer, without its branches; None of a refusal."""
     if not answer.startswith(b"ok "):
         return None
     first, *rows = [line.split() for line in answer.decode().splitlines()]
+    rows = [r for r in rows if r[1] in ("S", "V", "Q")]
     real = lambda x: math.nan if x == "nan" else double(int(x, 16))
     return int(first[1]), [r[1] for r in rows], [[real(r[k]) for r in rows] for k in (2, 3, 4, 5)]
 
