@@ -90,11 +90,11 @@ def texts(seed, count):
 
 def branched(seed, count):
     """Texts of the second edition. Every member of the families of IN_TURN comes first; then each round has a network of the next size, a large text, one of uneven
-    numbers, one of tied islands, one of each other slot, two with padded numbers, and the next member of each family of IN_TURN."""
+    numbers, one of tied islands, one with branches between slack buses, one of each other slot, two with padded numbers, and the next member of each family of IN_TURN."""
     rng = random.Random(f"branches {seed}")
     out, k = [family(rng, i) for family, members in IN_TURN.items() for i in range(members)], 0
     while len(out) < count:
-        out += [f.branched(rng, lambda rng: f.sized(rng, 1 + (32 - k) % 32)), LARGE_BRANCHED[k % len(LARGE_BRANCHED)](rng), f.uneven_branches(rng), f.tied(rng)]
+        out += [f.branched(rng, lambda rng: f.sized(rng, 1 + (32 - k) % 32)), LARGE_BRANCHED[k % len(LARGE_BRANCHED)](rng), f.uneven_branches(rng), f.tied(rng), f.between_slacks(rng)]
         out += [f.branched(rng, family) for family in BRANCHED] + [family(rng) for family in DAMAGED]
         out += [f.undressed(rng, family) for family in UNDRESSED] + [f.padded(rng, 2 * k, f.undressed), f.padded(rng, 2 * k + 1, f.branched)]
         out += [family(rng, k) for family in IN_TURN]
@@ -136,6 +136,11 @@ def solution(answer):
     rows = [r for r in rows if r[1] in ("S", "V", "Q")]
     real = lambda x: math.nan if x == "nan" else double(int(x, 16))
     return int(first[1]), [r[1] for r in rows], [[real(r[k]) for r in rows] for k in (2, 3, 4, 5)]
+
+
+def flows(answer):
+    """The figures of each branch of a solved answer: P and Q at the from end and at the to end, and the loss, as they are printed."""
+    return [line.split()[1:] for line in answer.decode().splitlines()[1:] if line.split()[1] not in ("S", "V", "Q")]
 
 
 def second(text):
@@ -221,8 +226,8 @@ def run_classes(text, answer, m):
         "solved by the fiftieth step": answer.startswith(b"ok 49 ") and m["fifty"] > 0,
         "switching goes on after a NaN": m["nan"] > m["starts"],
         "solved after a NaN": ok and m["nan"] > 0,
-        "solved with a NaN in the answer": ok and b"nan" in answer,
-        "solved with -0 in the answer": ok and b" 8000000000000000" in answer,
+        "solved with a NaN in the answer": ok and any(math.isnan(x) for column in solution(answer)[2] for x in column),
+        "solved with -0 in the answer": ok and any(x == 0 and math.copysign(1, x) < 0 for column in solution(answer)[2] for x in column),
         "refused 10": answer.startswith(b"refused 10 "),
         "refused 10 with nan": answer.startswith(b"refused 10 nan"),
         "refused 10 with infinity": answer.startswith(b"refused 10 7ff0000000000000"),
@@ -327,6 +332,43 @@ def branch_classes(text, answer):
     }
 
 
+def product(x, y):
+    return x[0] * y[0] - x[1] * y[1], x[0] * y[1] + x[1] * y[0]
+
+
+def zero_apart(row, v, u):
+    """Whether a current of a branch that is off, with tap 1 and no shift, its ends at the voltages v and u, would have another sign of zero if its sum were begun
+    from zero."""
+    g, b, g_fr, b_fr, g_to, b_to, _, _, sw = row
+    across = -g * sw, -b * sw
+    currents = [[product(((g + g_fr) * sw, (b + b_fr) * sw), v), product(across, u)], [product(across, v), product(((g + g_to) * sw, (b + b_to) * sw), u)]]
+    return any(str(x + y) != str(0.0 + x + y) for pair in currents for x, y in zip(*pair))
+
+
+def flow_classes(text, answer):
+    """The classes of the flows of a solved case."""
+    ok = answer.startswith(b"ok")
+    branches, found = (tables(text)[3], flows(answer)) if ok else ([], [])
+    _, _, (vm, va, _, _) = solution(answer) if ok else (0, [], [[]] * 4)
+    rows = [(int(r[0]), int(r[1]), [float(x) for x in r[2:]]) for r in branches]
+    at = lambda b: (vm[b] * math.cos(va[b]), vm[b] * math.sin(va[b]))
+    real = lambda x: math.nan if x == "nan" else double(int(x, 16))
+    values = [[real(x) for x in figures] for figures in found]
+    zero, minus = "0" * 16, "8" + "0" * 15
+    return {
+        "64 flows": len(found) == 64,
+        "a flow that is not a number": any("nan" in figures for figures in found),
+        "a flow of -0": any(minus in figures for figures in found),
+        "a branch that is off with flows of 0 and of -0": any(row[8] == 0 and zero in figures and minus in figures for (_, _, row), figures in zip(rows, found)),
+        "a current of a branch that is off whose sum begun from zero would lose its minus":
+            any(row[8] == 0 and row[6] == 1 and row[7] == 0 and zero_apart(row, at(i), at(k)) for i, k, row in rows),
+        "P enters at both ends": any(x[0] > 0 and x[2] > 0 for x in values),
+        "a loss below zero": any(x[4] < 0 for x in values),
+        "P from the from end": any(x[0] > 0 > x[2] for x in values),
+        "P from the to end": any(x[2] > 0 > x[0] for x in values),
+    }
+
+
 def branch_refusal_classes(text, answer):
     """Refusals before the first start. A text never meets 7, 9 and 13."""
     number, place = (int(x) for x in (answer.split() + [b"0"])[1:3])
@@ -372,6 +414,7 @@ def run_of_branches(text, answer, m):
     runs, reals = run_classes(text, answer, m), real_classes(text, answer)
     return branch_names({
         **branch_classes(text, answer),
+        **flow_classes(text, answer),
         **{name: runs[name] for name in RUNS},
         **{f"solved by a later start, {flag}": runs["solved"] and m["starts"] > 1 and text[-32] == ord(flag) for flag in "fc"},
         **{name: reals[name] for name in ("a real of more than 15 digits", "solved with a real of more than 15 digits", "22 decimals")},

@@ -669,6 +669,21 @@ def tied(rng):
     return c
 
 
+def between_slacks(rng):
+    """A network with a second slack bus, and branches between the two: their flows are in no mismatch, so a case is solved with NaN among them too. Some are off, and some
+    have shunts of twice the series admittance with its sign turned, so that both products of a current can be zeros with a minus."""
+    c = undressed(rng, lambda rng: network(rng, [rng.randrange(1, 5)], 0.4))
+    c.slacks.append([len(c.buses), rng.uniform(-0.3, 0.3)])
+    c.buses.append([rng.choice("VQ"), rng.uniform(0.9, 1.1), 0, 0, 0, 0, "?", "?"])
+    for _ in range(rng.randrange(1, 4)):
+        ends = [c.slacks[0][0], c.slacks[-1][0]]
+        rng.shuffle(ends)
+        series = [rng.choice([1, -1]) * rng.uniform(0, 5), rng.choice([1, -1]) * rng.uniform(0, 9)]
+        shunts = rng.choice([PLAIN[:4], [-2 * x for x in series] * 2])
+        c.branches.append([*ends, *series, *shunts, 1, rng.choice([0, 0, 0.2, 2000]), rng.choice([1, 0, "-0"])])
+    return c
+
+
 def transformer():
     """Two buses and a transformer, as short as it goes with a number of every form."""
     return Branched("f", [["V", 1, 0, 0, 0, 0, "?", "?"], ["Q", 1, 0.5, "-0", 0, 0, 1, 0]], [[0, 0]], [], [[0, 1, 1, -9, 0, 0, 0, 0.2, 0.97, -0.1, 1]])

@@ -12,7 +12,7 @@ import sys
 
 import cases
 
-FIRST, SECOND = (9, 1280), (60, 400)  # the seed and how many texts, of each edition
+FIRST, SECOND = (9, 1280), (70, 400)  # the seed and how many texts, of each edition
 
 
 def main():

@@ -52,8 +52,10 @@ fn branch_flow(y: Admittance, from: Complex, to: Complex) -> Flow
 {
     let i_from = y.ff.product(from).sum(y.ft.product(to));
     let i_to = y.tf.product(from).sum(y.tt.product(to));
-    let s_from = from.product(i_from.conjugate());
-    let s_to = to.product(i_to.conjugate());
+    let against_from = i_from.conjugate();
+    let against_to = i_to.conjugate();
+    let s_from = from.product(against_from);
+    let s_to = to.product(against_to);
     Flow {
         pf: s_from.re,
         qf: s_from.im,

@@ -8,14 +8,15 @@ returns : tie.Need-returns
 unfolding flowOf
 returns c =
     let t = c .before .before in
-    let f = t .before .before in
-    let i = f .before .before in
+    let f = t .before in
+    let k = f .before .before in
+    let i = k .before in
     let j = i .before .before .before in
     simp (
       t .product6 .ensures,
-      t .before .conjugate2 .ensures,
       f .product5 .ensures,
-      f .before .conjugate .ensures,
+      f .before .conjugate2 .ensures,
+      k .conjugate .ensures,
       i .sum2 .ensures,
       i .before .product4 .ensures,
       i .before .before .product3 .ensures,
