@@ -47,7 +47,8 @@ use Rattle.outcome.specs.declared.Checked.the-variants as Checked
 use Rattle.outcome.specs.declared.Outcome.the-variants.{Room}
 use Rattle.ybus.specs.declared.Fault.{Fault}
 use Rattle.ybus.specs.declared.Fault.the-variants as Fault
-use Rattle.branch_tables.specs.BranchTables.{faultRefusal, checkedBranchesOf, BranchAnswer, branchAnswer, afterBranchCheck, solveBranchesOf}
+use Rattle.branch_checks.specs.BranchChecks.{faultRefusal, checkedBranchesOf}
+use Rattle.branch_tables.specs.BranchTables.{BranchAnswer, branchAnswer, afterBranchCheck, solveBranchesOf}
 
 -- the branch goes from bus 0, with a tap
 abbrev joined : ℕ → Float → BranchNetwork

@@ -47,7 +47,8 @@ use Rattle.outcome.specs.Outcome.{Outs, lengthsIn, paperOf, roomy, rowRefusal, 
 use Rattle.tables.specs.Tables.{checkedOf, Answer, afterCheck, solveOf}
 use Rattle.tables.specs.Tables.Withheld.{solve-withheld}
 use Rattle.tables.specs.Tables.Space.{answer-space, columns-space}
-use Rattle.branch_tables.specs.BranchTables.{checkedRowsOf, BranchAnswer, afterBranchCheck, solveBranchesOf}
+use Rattle.branch_checks.specs.BranchChecks.{checkedRowsOf}
+use Rattle.branch_tables.specs.BranchTables.{BranchAnswer, afterBranchCheck, solveBranchesOf}
 use Rattle.branch_tables.specs.BranchTables.Laws.{branches-never-7-9}
 use Rattle.branch_tables.specs.BranchTables.Withheld.{AlikeBranches, branches-withheld}
 use Rattle.branch_tables.specs.BranchTables.Space.{branches-answer-space, branches-columns-space, branches-flows-space}

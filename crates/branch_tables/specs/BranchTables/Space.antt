@@ -13,8 +13,10 @@ use Rattle.outcome.specs.declared.Outcome.{Outcome}
 use Rattle.outcome.specs.Outcome.{Outs, lengthsIn, paperOf}
 use Rattle.tables.specs.Tables.{answer, afterRun}
 use Rattle.tables.specs.Tables.Space.{run-space}
-use Rattle.branch_tables.specs.BranchTables.{checkedBranchesOf, builtNetwork, BranchAnswer, branchAnswer, flowsAfter, solveBranchesOf}
-use Rattle.branch_tables.specs.BranchTables.Laws.{met-branches, built-ready, branches-refused, branches-ready}
+use Rattle.branch_checks.specs.BranchChecks.{checkedBranchesOf}
+use Rattle.branch_checks.specs.BranchChecks.Laws.{met-branches}
+use Rattle.branch_tables.specs.BranchTables.{builtNetwork, BranchAnswer, branchAnswer, flowsAfter, solveBranchesOf}
+use Rattle.branch_tables.specs.BranchTables.Laws.{built-ready, branches-refused, branches-ready}
 
 module _ (start : AcStart) (t : BranchNetwork) (o : Outs) (f : Flows) (w v : List Float) (size : length w ≡ length v) where
   -- where the checks are met the whole answer is the same, the flows and the workspace included

@@ -21,7 +21,8 @@ use Rattle.outcome.specs.declared.Checked.the-variants as Checked
 use Rattle.outcome.specs.declared.Outcome.the-variants.{Counts, Room}
 use Rattle.outcome.specs.Outcome.{Outs, lengthsIn, roomy, busRefusal}
 use Rattle.tables.specs.Tables.Withheld.{counted-same, missing-same, ready-same}
-use Rattle.branch_tables.specs.BranchTables.{thenFault, checkedBranchesOf, builtNetwork, branchAnswer, flowsAfter, ranBranches, afterBranchCheck, solveBranchesOf}
+use Rattle.branch_checks.specs.BranchChecks.{thenFault, checkedBranchesOf}
+use Rattle.branch_tables.specs.BranchTables.{builtNetwork, branchAnswer, flowsAfter, ranBranches, afterBranchCheck, solveBranchesOf}
 use Rattle.branch_tables.specs.BranchTables.Laws.{ready-branches}
 
 -- buses, slack rows and generators alike as 01 has it, and all of the branches

@@ -1,12 +1,12 @@
--- `branch_tables::check_rows` meets its contract: a missing bus first, then a branch at fault.
+-- `branch_checks::check_rows` meets its contract: a missing bus first, then a branch at fault.
 use mathlib.Core.Path.{ap, _∙_}
 use borrow.Author.Needs.{needs}
 use Rattle.network.specs.Network.{branchesOf}
 use Rattle.ybus.specs.Fault.{faultOf}
 use Rattle.outcome.specs.Outcome.{busRefusal}
-use Rattle.branch_tables.specs.BranchTables.{thenFault}
-use Rattle.branch_tables.proofs.check_rows.Statement.{statement}
-use Rattle.branch_tables.proofs.check_rows.Tie as tie
+use Rattle.branch_checks.specs.BranchChecks.{thenFault}
+use Rattle.branch_checks.proofs.check_rows.Statement.{statement}
+use Rattle.branch_checks.proofs.check_rows.Tie as tie
 
 returns : tie.Need-returns
 returns c =

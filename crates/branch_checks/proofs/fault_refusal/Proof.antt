@@ -1,7 +1,7 @@
--- `branch_tables::fault_refusal` meets its contract, case by case. Assumes nothing.
+-- `branch_checks::fault_refusal` meets its contract, case by case. Assumes nothing.
 use borrow.Author.Needs.{needs}
-use Rattle.branch_tables.proofs.fault_refusal.Statement.{statement}
-use Rattle.branch_tables.proofs.fault_refusal.Tie as tie
+use Rattle.branch_checks.proofs.fault_refusal.Statement.{statement}
+use Rattle.branch_checks.proofs.fault_refusal.Tie as tie
 
 returns : tie.Need-returns
 returns c = rw (c .before .f .given .1)
