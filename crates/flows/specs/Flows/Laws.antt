@@ -1,15 +1,15 @@
--- What the room tells, and that the admittances which the code has worked out are the branches' own.
+-- What the room tells, that the admittances which the code has worked out are the branches' own, and what stands in the columns.
 use Prim.Native.Nat.{ℕ, _≤_, _<_}
 use mathlib.Core.List.{List}
 use mathlib.Core.Path.{_≡_, _∙_}
 use native.Mathlib.Omega.{arith}
-use lib.ListN.{length, length-replicate}
+use lib.ListN.{length, getD, length-replicate}
 use lib.Ieee.{Float}
 use Rattle.network.specs.Network.{Branches}
 use Rattle.network.specs.BranchTable.{BranchTable}
 use Rattle.network.specs.Network.Laws.{under2}
 use Rattle.layout.specs.Table.{stores}
-use Rattle.layout.specs.Table.Laws.{stores-ext, stores-at}
+use Rattle.layout.specs.Table.Laws.{stores-ext, stores-at, stores-past}
 use Rattle.ybus.specs.declared.Admittance.{Admittance}
 use Rattle.ybus.specs.Branch.{branchAt, admittanceOf}
 use Rattle.ybus.specs.Ybus.{admittancesOf, admittanceAt}
@@ -40,3 +40,39 @@ pub flows-of-table : (t : BranchTable) (y : List Admittance) (vm va : List Float
 unfolding admittancesOf
 flows-of-table t y vm va f a same few e h =
     h ∙ flows-ext (t .ends) _ _ vm va f (λ k q. rw e (stores-at _ (length (t .values .g)) _ k _ (omega arith) (rw length-replicate (omega arith))))
+
+-- ---- what stands in the columns
+
+-- the figures of a flow at place e of each column
+pub record FlowAt (x : Flow) (f : Flows) (e : ℕ) (d : Float) : Type 0 where
+  pub pf : getD (f .pf) e d ≡ x .pf
+  pub qf : getD (f .qf) e d ≡ x .qf
+  pub pt : getD (f .pt) e d ≡ x .pt
+  pub qt : getD (f .qt) e d ≡ x .qt
+  pub loss : getD (f .loss) e d ≡ x .loss
+
+module _ (ends : Branches) (y : ℕ → Admittance) (vm va : List Float) (f : Flows) (e : ℕ) (d : Float) where
+  -- a branch's own
+  pub flow-at : OnePerBranch (length (ends .from)) f → e < length (ends .from) → FlowAt (flowBy ends y vm va e) (withFlowsBy ends y vm va f) e d
+  unfolding withFlowsBy
+  flow-at m h =
+      record {
+        pf = stores-at _ _ (f .pf) e d h (m .pf);
+        qf = stores-at _ _ (f .qf) e d h (m .qf);
+        pt = stores-at _ _ (f .pt) e d h (m .pt);
+        qt = stores-at _ _ (f .qt) e d h (m .qt);
+        loss = stores-at _ _ (f .loss) e d h (m .loss);
+      }
+
+  -- past the branches what stood there
+  pub flow-past : length (ends .from) ≤ e
+      → FlowAt (record { pf = getD (f .pf) e d; qf = getD (f .qf) e d; pt = getD (f .pt) e d; qt = getD (f .qt) e d; loss = getD (f .loss) e d }) (withFlowsBy ends y vm va f) e d
+  unfolding withFlowsBy
+  flow-past h =
+      record {
+        pf = stores-past _ _ (f .pf) e d h;
+        qf = stores-past _ _ (f .qf) e d h;
+        pt = stores-past _ _ (f .pt) e d h;
+        qt = stores-past _ _ (f .qt) e d h;
+        loss = stores-past _ _ (f .loss) e d h;
+      }
