@@ -1,28 +1,26 @@
-// The solve over tables of branches: the public call. The list of the admittance matrix's entries is built from the branches, and the tables with that list as
-// their triplets are solved as those of the first edition are.
+// The solve over tables of branches: the public call. The list of the admittance matrix's entries is built from the branches, the tables with that list as their
+// triplets are solved as those of the first edition are, and a solved answer is given the flows of its branches.
 use outcome::Checked;
 use outcome::Outcome;
 use starts::AcStart;
-use ybus::Entries;
 ghost use mathlib.Core.Path.{_≡_};
-ghost use Prim.Native.Nat.{_≤_};
 ghost use mathlib.Core.List.{List};
 ghost use lib.ListN.{length};
 ghost use lib.Ieee.{Float};
-ghost use Rattle.network.specs.Network.{Network, busCount, busesOf, slacksOf, generatorsOf, branchesOf, networkOf};
-ghost use Rattle.network.specs.Checks.{WellIndexed};
+ghost use Rattle.network.specs.Network.{busesOf, slacksOf, generatorsOf, branchesOf};
 ghost use Rattle.network.specs.BranchTable.{BranchNetwork, valuesOf, branchTableOf, branchNetworkOf};
-ghost use Rattle.ybus.specs.Ybus.{Filled, listIn};
-ghost use Rattle.outcome.specs.Outcome.{Outs, outs, OnePerBus, lengthsOf, lengthsIn, paperOf};
+ghost use Rattle.outcome.specs.Outcome.{Outs, outs, lengthsOf, lengthsIn, paperOf};
 ghost use Rattle.flows.specs.declared.Flows.{Flows};
 ghost use Rattle.flows.specs.Flows.{flowsOf, flowsRoom};
-ghost use Rattle.tables.specs.Tables.{runOf, answer, afterRun};
+ghost use Rattle.tables.specs.Tables.{answer};
+ghost use Rattle.branch_checks.specs.BranchChecks.{checkedBranchesOf};
 ghost use Rattle.branch_tables.specs.BranchTables.{ReadyBranches, branchAnswer, ranBranches, solveBranchesOf};
 
-// ---- the solve of ready tables
+// ---- the checks
 
-// With the list in the first places of the entries.
-fn solve_list(
+// The refusals before 10, in their order. The last seven are the lengths of the answer columns of buses, the fewest places of a column of the flows, and the
+// length of the workspace.
+fn check_branches(
     kind: &[u8],
     vm_set: &[f64],
     pd: &[f64],
@@ -38,64 +36,71 @@ fn solve_list(
     qmax: &[f64],
     from: &[usize],
     to: &[usize],
-    y: Entries,
-    start: AcStart,
-    vm: &mut [f64],
-    va: &mut [f64],
-    p: &mut [f64],
-    q: &mut [f64],
-    kinds: &mut [u8],
-    w: &mut [f64],
-) -> Outcome
-    ghost { Network × Outs × List Float }
-    requires { λ α. ⌜ (
-      networkOf
-          (busesOf (now kind) (now «vm_set») (now pd) (now qd) (now pg) (now qg) (now «vm_case») (now «va_case»))
-          (slacksOf (now slacks) (now «va_slacks»))
-          (generatorsOf (now «gen_bus») (now qmin) (now qmax))
-          (branchesOf (now from) (now to)) (listIn y),
-      outs (now vm) (now va) (now p) (now q) (now kinds),
-      now w,
-    ) ≡ α ⌝ }
-    requires { λ (t, o, space). ⌜ Filled y × WellIndexed t × OnePerBus (busCount t) (lengthsIn o) × (6144 ≤ length space) ⌝ }
-    ensures { λ (t, o, space) r.
-        let e = outs (now (vm .exit)) (now (va .exit)) (now (p .exit)) (now (q .exit)) (now (kinds .exit)) in
-        ⌜ answer (paperOf r) e (now (w .exit)) ≡ afterRun t o (runOf start t space) ⌝ }
+    g: &[f64],
+    b: &[f64],
+    g_fr: &[f64],
+    b_fr: &[f64],
+    g_to: &[f64],
+    b_to: &[f64],
+    tap: &[f64],
+    shift: &[f64],
+    sw: &[f64],
+    vm: usize,
+    va: usize,
+    p: usize,
+    q: usize,
+    kinds: usize,
+    places: usize,
+    w: usize,
+) -> Checked
+    ensures { λ r.
+        let t = branchNetworkOf
+        (busesOf (now (kind .entry)) (now («vm_set» .entry)) (now (pd .entry)) (now (qd .entry)) (now (pg .entry)) (now (qg .entry)) (now («vm_case» .entry)) (now («va_case» .entry)))
+        (slacksOf (now (slacks .entry)) (now («va_slacks» .entry)))
+        (generatorsOf (now («gen_bus» .entry)) (now (qmin .entry)) (now (qmax .entry)))
+        (branchTableOf (branchesOf (now (from .entry)) (now (to .entry)))
+        (valuesOf (now (g .entry)) (now (b .entry)) (now («g_fr» .entry)) (now («b_fr» .entry)) (now («g_to» .entry)) (now («b_to» .entry)) (now (tap .entry)) (now (shift .entry)) (now (sw .entry)))) in
+        ⌜ r ≡ checkedBranchesOf t (lengthsOf vm va p q kinds) places w ⌝ }
 {
-    let k = y.count;
-    let row = y.row;
-    let col = y.col;
-    let re = y.re;
-    let im = y.im;
-    tables::solve_ready(
-        kind,
-        vm_set,
-        pd,
-        qd,
-        pg,
-        qg,
-        vm_case,
-        va_case,
-        slacks,
-        va_slacks,
-        gen_bus,
-        qmin,
-        qmax,
-        from,
-        to,
-        &row[..k],
-        &col[..k],
-        &re[..k],
-        &im[..k],
-        start,
-        vm,
-        va,
-        p,
-        q,
-        kinds,
-        w,
-    )
+    let counts = real::and(
+        network::values_counted(from.len(), g, b, g_fr, b_fr, g_to, b_to, tap, shift, sw),
+        network::counted(
+            kind,
+            vm_set,
+            pd,
+            qd,
+            pg,
+            qg,
+            vm_case,
+            va_case,
+            slacks,
+            va_slacks,
+            gen_bus,
+            qmin,
+            qmax,
+            from,
+            to,
+            &from[..0],
+            &from[..0],
+            &vm_set[..0],
+            &vm_set[..0],
+        ),
+    );
+    if !counts {
+        return Checked::Refused(Outcome::Counts);
+    }
+    let n = kind.len();
+    let room = real::and(
+        outcome::roomy(n, vm, va, p, q, kinds, w),
+        from.len() <= places,
+    );
+    if !room {
+        return Checked::Refused(Outcome::Room);
+    }
+    branch_checks::check_rows(n, slacks, gen_bus, from, to, tap)
 }
+
+// ---- the solve of ready tables
 
 // With the list built from the branches, and the flows where it is solved.
 fn solve_built(
@@ -168,7 +173,12 @@ fn solve_built(
         shift,
         sw,
     );
-    let r = solve_list(
+    let k = y.count;
+    let row = y.row;
+    let col = y.col;
+    let re = y.re;
+    let im = y.im;
+    let r = tables::solve_ready(
         kind,
         vm_set,
         pd,
@@ -184,7 +194,10 @@ fn solve_built(
         qmax,
         from,
         to,
-        y,
+        &row[..k],
+        &col[..k],
+        &re[..k],
+        &im[..k],
         start,
         vm,
         va,
@@ -196,26 +209,8 @@ fn solve_built(
     if !outcome::solved(r) {
         return r;
     }
-    flows::write_flows(
-        from,
-        to,
-        g,
-        b,
-        g_fr,
-        b_fr,
-        g_to,
-        b_to,
-        tap,
-        shift,
-        sw,
-        vm,
-        va,
-        pf,
-        qf,
-        pt,
-        qt,
-        loss,
-    );
+    let all = ybus::admittances(g, b, g_fr, b_fr, g_to, b_to, tap, shift, sw);
+    flows::write_flows(from, to, all, vm, va, pf, qf, pt, qt, loss);
     r
 }
 
@@ -273,7 +268,7 @@ pub fn solve(
         ⌜ branchAnswer (answer (paperOf r) e (now (w .exit))) g ≡ solveBranchesOf start t o f (now (w .entry)) ⌝ }
 {
     let places = flows::fewest(pf.len(), qf.len(), pt.len(), qt.len(), loss.len());
-    let c = branch_checks::check_branches(
+    let c = check_branches(
         kind,
         vm_set,
         pd,

@@ -7,10 +7,9 @@ ghost use Prim.Native.Nat.{_<_};
 ghost use Rattle.network.specs.Below.{Below};
 ghost use Rattle.network.specs.Network.{branchesOf};
 ghost use Rattle.network.specs.Checks.{SizedBranches};
-ghost use Rattle.network.specs.BranchTable.{BranchTable, valuesOf, branchTableOf, SizedValues};
 ghost use Rattle.injections.specs.Injections.{voltageAt};
 ghost use Rattle.ybus.specs.Ybus.{admittanceAt};
-ghost use Rattle.flows.specs.Flows.{fewestOf, flowOf, flowsOf, blankFlows, OnePerBranch, withFlowsBy, withFlows};
+ghost use Rattle.flows.specs.Flows.{fewestOf, flowOf, flowsOf, blankFlows, OnePerBranch, withFlowsBy};
 
 // What enters one branch: active and reactive power at its from end and at its to end; and the loss.
 pub struct Flow {
@@ -75,8 +74,8 @@ fn voltage(b: usize, vm: &[f64], va: &[f64]) -> Complex
 
 // ---- all branches
 
-// One place per branch in each column, and none past them.
-fn store(
+// The flows of all branches, whose admittances are y, at the voltages of a solved answer: one place per branch in each column, and none past them.
+pub fn write_flows(
     from: &[usize],
     to: &[usize],
     y: [Admittance; 64],
@@ -104,39 +103,6 @@ fn store(
         qt[e] = f.qt;
         loss[e] = f.loss;
     }
-}
-
-// The flows of all branches at the voltages of a solved answer.
-pub fn write_flows(
-    from: &[usize],
-    to: &[usize],
-    g: &[f64],
-    b: &[f64],
-    g_fr: &[f64],
-    b_fr: &[f64],
-    g_to: &[f64],
-    b_to: &[f64],
-    tap: &[f64],
-    shift: &[f64],
-    sw: &[f64],
-    vm: &[f64],
-    va: &[f64],
-    pf: &mut [f64],
-    qf: &mut [f64],
-    pt: &mut [f64],
-    qt: &mut [f64],
-    loss: &mut [f64],
-)
-    ghost { BranchTable }
-    requires { λ t. ⌜ branchTableOf (branchesOf (now from) (now to))
-        (valuesOf (now g) (now b) (now «g_fr») (now «b_fr») (now «g_to») (now «b_to») (now tap) (now shift) (now sw)) ≡ t ⌝ }
-    requires { λ t. ⌜ SizedBranches (t .ends) × SizedValues (length (t .ends .from)) (t .values) × OnePerBranch (length (now from)) (flowsOf (now pf) (now qf) (now pt) (now qt) (now loss)) ⌝ }
-    requires { λ t. ⌜ Below (length (now vm)) (now from) × Below (length (now va)) (now from) × Below (length (now vm)) (now to) × Below (length (now va)) (now to) ⌝ }
-    ensures { λ t _. ⌜ flowsOf (now (pf .exit)) (now (qf .exit)) (now (pt .exit)) (now (qt .exit)) (now (loss .exit))
-        ≡ withFlows t (now (vm .entry)) (now (va .entry)) (flowsOf (now (pf .entry)) (now (qf .entry)) (now (pt .entry)) (now (qt .entry)) (now (loss .entry))) ⌝ }
-{
-    let y = ybus::admittances(g, b, g_fr, b_fr, g_to, b_to, tap, shift, sw);
-    store(from, to, y, vm, va, pf, qf, pt, qt, loss);
 }
 
 // ---- the room

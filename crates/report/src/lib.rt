@@ -1,6 +1,5 @@
 // The report: from the bytes of a case text to the bytes that the solve program prints.
 use answered::Answered;
-use answered::FlowAnswer;
 use case_text::Reading;
 use flows::Flows;
 use outcome::Outcome;

@@ -16,10 +16,12 @@ use Rattle.network.specs.BranchTable.{BranchNetwork, withTriplets, noTriplets}
 use Rattle.network.specs.BranchTable.Laws.{values-sized}
 use Rattle.ybus.specs.declared.Entries.{Entries}
 use Rattle.ybus.specs.Fault.Laws.{nothing-told}
-use Rattle.ybus.specs.Ybus.{Fit, entriesOf, listIn}
+use Rattle.ybus.specs.declared.Admittance.{Admittance}
+use Rattle.ybus.specs.Ybus.{Fit, entriesOf, listIn, admittancesOf, admittanceAt}
 use Rattle.ybus.specs.Ybus.Laws.{at-most, list-good, OneDiagonal, one-diagonal, entries-list}
 use Rattle.flows.specs.declared.Flows.{Flows}
-use Rattle.flows.specs.Flows.{withFlows, flowsRoom}
+use Rattle.flows.specs.Flows.{withFlowsBy, withFlows, flowsRoom}
+use Rattle.flows.specs.Flows.Laws.{flows-of-table}
 use Rattle.starts.specs.declared.AcStart.{AcStart}
 use Rattle.outcome.specs.declared.Checked.{Checked}
 use Rattle.outcome.specs.declared.Checked.the-variants as Checked
@@ -104,9 +106,11 @@ module _ {t : BranchNetwork} {m : Lengths} {places space : ℕ} (ready : ReadyBr
 
   module _ (start : AcStart) (o : Outs) (f : Flows) (w : List Float) (a : Answer)
       (h : a ≡ afterRun (withTriplets t (listIn y)) o (runOf start (withTriplets t (listIn y)) w)) where
-    -- the flows of a solved answer are written
-    pub ran-solved : isGiven (a .paper) ≡ true → (g : Flows) → g ≡ withFlows (t .table) (a .columns .vm) (a .columns .va) f → branchAnswer a g ≡ ranBranches start t o f w
-    ran-solved s g k = rw (← listed-answer start o w a h, s, k)
+    -- the flows of a solved answer are written, from the branches' own admittances
+    pub ran-solved : isGiven (a .paper) ≡ true → (z : List Admittance) → z ≡ admittancesOf (length (t .table .values .g)) (t .table .values) → (g : Flows)
+        → g ≡ withFlowsBy (t .table .ends) (admittanceAt z) (a .columns .vm) (a .columns .va) f → branchAnswer a g ≡ ranBranches start t o f w
+    ran-solved s z x g k =
+        rw (← listed-answer start o w a h, s, flows-of-table (t .table) z (a .columns .vm) (a .columns .va) f g (ready .fit .values .g) (ready .fit .ends .few) x k)
 
     -- those of another stay
     pub ran-refused : isGiven (a .paper) ≡ false → branchAnswer a f ≡ ranBranches start t o f w

@@ -11,7 +11,6 @@ use Rattle.network.specs.Network.Laws.{under2}
 use Rattle.layout.specs.Table.{stores}
 use Rattle.layout.specs.Table.Laws.{stores-ext, stores-at, stores-past}
 use Rattle.ybus.specs.declared.Admittance.{Admittance}
-use Rattle.ybus.specs.Branch.{branchAt, admittanceOf}
 use Rattle.ybus.specs.Ybus.{admittancesOf, admittanceAt}
 use Rattle.flows.specs.declared.Flow.{Flow}
 use Rattle.flows.specs.declared.Flows.{Flows}

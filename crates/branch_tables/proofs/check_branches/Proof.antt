@@ -1,4 +1,4 @@
--- `branch_checks::check_branches` meets its contract: each way out with the checks before it.
+-- `branch_tables::check_branches` meets its contract: each way out with the checks before it.
 use mathlib.Core.Path.{_≡_, sym, _∙_}
 use borrow.Author.Needs.{needs}
 use borrow.Author.Tests.{not-true, not-false}
@@ -9,10 +9,10 @@ use Rattle.network.specs.Checks.Laws.{counted-branches}
 use Rattle.network.specs.Missing.{missingIn}
 use Rattle.network.specs.BranchTable.Laws.{values-sized}
 use Rattle.outcome.specs.Outcome.{lengthsOf}
 use Rattle.branch_checks.specs.BranchChecks.{countedBranches, roomyBranches}
 use Rattle.branch_checks.specs.BranchChecks.Laws.{check-counts, check-room, check-rows}
-use Rattle.branch_checks.proofs.check_branches.Statement.{statement}
-use Rattle.branch_checks.proofs.check_branches.Tie as tie
+use Rattle.branch_tables.proofs.check_branches.Statement.{statement}
+use Rattle.branch_tables.proofs.check_branches.Tie as tie
 
 abbrev tables-of : tie.After-values-counted → BranchNetwork
 tables-of c =
