@@ -10,7 +10,7 @@ extern "C" {
 
 // What a run of ours is lent. It is cleared once and then used for every run.
 struct Lent {
-    out: Box<[u8; 4096]>,
+    out: Box<[u8; 10240]>,
     space: Box<[f64; 6144]>,
 }
 
@@ -65,7 +65,7 @@ fn stack(mut f: &mut dyn FnMut()) -> usize {
 }
 
 fn main() {
-    let mut lent = Lent { out: Box::new([0; 4096]), space: Box::new([0.0; 6144]) };
+    let mut lent = Lent { out: Box::new([0; 10240]), space: Box::new([0.0; 6144]) };
     println!("{:<12} {:>6} {:>10} {:>10} {:>6} {:>11} {:>11}", "input", "bytes", "ours us", "Rust us", "ratio", "ours stack", "Rust stack");
     for path in std::env::args().skip(1) {
         let name = path.rsplit('/').next().unwrap().trim_end_matches(".case");
