@@ -92,7 +92,7 @@ fn main() {
     let mut front = [0u8; 4];
     let mut texts = io::large_buffer();
     let mut answers = io::large_buffer();
-    let mut out = io::buffer();
+    let mut out = [0u8; report::BUFFER];
     let mut space = [0.0; 6144];
     let head: &mut [u8] = &mut front;
     let text: &mut [u8] = &mut texts;
