@@ -19,6 +19,7 @@ use Rattle.outcome.specs.declared.Checked.the-variants as Checked
 use Rattle.outcome.specs.declared.Outcome.the-variants.{Counts, Room, Tap, Ends}
 use Rattle.outcome.specs.Outcome.{Lengths, roomy, busRefusal}
 
+-- how many branches there are
 abbrev pub branchCount : BranchNetwork → ℕ
 branchCount t = length (t .table .ends .from)
 

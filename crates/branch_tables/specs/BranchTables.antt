@@ -48,6 +48,7 @@ branchAnswer a f = record { solved = a; flows = f }
 abbrev pub flowsAfter : BranchTable → Answer → Flows → Flows
 flowsAfter t a f = cond (isGiven (a .paper)) (withFlows t (a .columns .vm) (a .columns .va) f) f
 
+-- what a run answers, with its flows
 abbrev pub ranBranches : AcStart → BranchNetwork → Outs → Flows → List Float → BranchAnswer
 ranBranches start t o f w =
     let a = afterRun (builtNetwork t) o (runOf start (builtNetwork t) w) in

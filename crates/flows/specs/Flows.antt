@@ -34,6 +34,7 @@ fromEnd y v u = entering v (currentOf (y .ff) (y .ft) v u)
 abbrev pub toEnd : Admittance → Complex → Complex → Complex
 toEnd y v u = entering u (currentOf (y .tf) (y .tt) v u)
 
+-- "The loss is the sum of the two active figures, from end first"
 unfoldable pub flowOf : Admittance → Complex → Complex → Flow
 flowOf y v u =
     let f = fromEnd y v u in
@@ -42,6 +43,7 @@ flowOf y v u =
 
 -- ---- all branches
 
+-- the five columns
 abbrev pub flowsOf : List Float → List Float → List Float → List Float → List Float → Flows
 flowsOf pf qf pt qt loss = record { pf = pf; qf = qf; pt = pt; qt = qt; loss = loss }
 
