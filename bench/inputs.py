@@ -67,6 +67,13 @@ def zeros(rng):
     return f.filled(c, c.buses[0], 1, 1, 0).text()
 
 
+def decimals(rng):
+    """Every table full and every real with 22 decimals, the most that may stand. The last slack row names no bus, so the whole text is read and nothing solved."""
+    c = f.respelled(f.full(rng), lambda x: f.spelled(rng.randrange(10 ** 15), 22, 1))
+    c.slacks[-1][0] = f.SIZES["B"]
+    return c.text()
+
+
 def solved(text, answer, met):
     return answer.startswith(b"ok ")
 
@@ -77,6 +84,7 @@ DRAWN = {
     "rounds12": (lambda rng: f.cascade(rng).text(), lambda text, answer, met: solved(text, answer, met) and met["rounds"] == 12),
     "refused10": (refused, lambda text, answer, met: answer.startswith(b"refused 10 ") and answer.endswith(b" 6\n")),
     "longest": (longest, solved),
+    "decimals22": (decimals, lambda text, answer, met: answer == b"refused 8 31\n"),
     "bytes32768": (f.long, lambda text, answer, met: len(text) == 32768),
     "flat32k": (branches, solved),
     "longestk": (longest_branches, solved),

@@ -94,38 +94,18 @@ pub fn read_bus(s: &[u8], a: usize, e: usize) -> Digits
     whole(s, a, e, 0)
 }
 
-const TEN: [f64; 23] = [
-    1.0,
-    10.0,
-    100.0,
-    1000.0,
-    10000.0,
-    100000.0,
-    1000000.0,
-    10000000.0,
-    100000000.0,
-    1000000000.0,
-    10000000000.0,
-    100000000000.0,
-    1000000000000.0,
-    10000000000000.0,
-    100000000000000.0,
-    1000000000000000.0,
-    10000000000000000.0,
-    100000000000000000.0,
-    1000000000000000000.0,
-    10000000000000000000.0,
-    100000000000000000000.0,
-    1000000000000000000000.0,
-    10000000000000000000000.0,
-];
-
-// The power of ten of k decimals. The only place that knows of the table.
+// The power of ten of k decimals: 1.0 multiplied by ten once for each.
 fn ten(k: usize) -> f64
     requires { ⌜ k ≤ 22 ⌝ }
     ensures { λ r. ⌜ r ≡ double (10 ^ k) ⌝ }
 {
-    TEN[k]
+    let mut p = 1.0;
+    let mut i = 0;
+    while i < k {
+        p = p * 10.0;
+        i += 1;
+    }
+    p
 }
 
 // m divided once by the power of ten of k decimals.

@@ -1,18 +1,17 @@
 -- A real's value is the decimal that it writes, rounded once: the double nearest to it, ties to even. For the digits that may count are a whole number below
 -- 10^15 and the decimals' power of ten is at most 10^22, so both are doubles, and their quotient is rounded once. Assumes nothing.
 use mathlib.Core.Path.{_≡_, refl, sym, ap, _∙_}
-use mathlib.Core.Bool.{Bool, true, false, true≢false, cond}
+use mathlib.Core.Bool.{Bool, true, false, cond}
 use mathlib.Core.Logic.{⊎-elim}
 use mathlib.Core.List.{List, [], _∷_}
-use Prim.Native.Nat.{ℕ, zero, suc, _+_, _*_, _^_, _≤_, _<_}
-use native.Mathlib.Nat.{lt-of-le-of-lt, lt-of-lt-of-le, mul-one, mul-assoc, mul-comm, mul-left-comm, mul-pos, pow-succ', pow-le-pow-right, one-le-pow, lt-irrefl, zero-mul}
+use Prim.Native.Nat.{ℕ, _*_, _^_, _≤_, _<_}
+use native.Mathlib.Nat.{mul-one, mul-assoc, mul-comm, mul-left-comm, mul-pos, one-le-pow, lt-irrefl, zero-mul}
 use native.Mathlib.Omega.{arith}
 use lib.Dec.{eqb, lit<}
-use lib.Pow.{pow-add, pow-mono, shl-lt}
-use lib.Ieee.{Float, nan, inf, fin, Format, binary64, prec, emax, low, up, down, neg, round, div, ofInt}
+use lib.Ieee.{Float, nan, inf, fin, Format, binary64, up, down, neg, round, div, ofInt}
 use lib.ListN.{length}
 use lib.Ieee.Fits.{down-pos}
-use lib.Ieee.Exact.{HasValue, round-exact}
+use lib.Ieee.Exact.{HasValue}
 use lib.Ieee.Back.{round-whole}
 use lib.Ieee.Scale.{round-same}
 use borrow.Author.Tests.{ne-eqb}
@@ -24,42 +23,12 @@ use Rattle.real.proofs.Rounding.{neg-round}
 use Rattle.fields.specs.Cut.{upto, past, has, empty}
 use Rattle.fields.specs.Cut.Laws.{empty-is, has-not, past-none}
 use Rattle.fields.specs.Digits.{digits, number}
+use Rattle.fields.specs.Powers.Laws.{power-exact}
 use Rattle.fields.specs.Real.{allowed, valueOf, negatedOf, amountBy, pointedBy, amountOf, unsignedOf, realOf}
 use Rattle.fields.specs.Real.Laws.{no-digits, too-many, not-whole, not-decimals, few-decimals, number-small}
 use Rattle.fields.specs.Decimal.{hasMinus, wholes, decimals, numerator, denominator}
 use Rattle.fields.specs.declared.Real.{Real}
 use Rattle.fields.specs.declared.Real.the-variants as Real
-
--- ---- powers of ten
-
-five-two : (k : ℕ) → 10 ^ k ≡ 5 ^ k * 2 ^ k
-five-two zero = refl
-five-two (suc k) =
-    let a = pow-succ' 10 k in
-    let b = pow-succ' 5 k in
-    let c = pow-succ' 2 k in
-    let d : 5 * 5 ^ k * (2 * 2 ^ k) ≡ 5 * (2 * (5 ^ k * 2 ^ k)) = simp (mul-assoc, mul-comm, mul-left-comm) in
-    let e : 5 * (2 * (5 ^ k * 2 ^ k)) ≡ 10 * (5 ^ k * 2 ^ k) = omega arith in
-    a ∙ ap (λ (x : ℕ). 10 * x) (five-two k) ∙ sym (d ∙ e) ∙ sym (ap (λ (x : ℕ). x * 2 ^ suc k) b ∙ ap (λ (x : ℕ). 5 * 5 ^ k * x) c)
-
--- up to 10^22 each is a double: 5^22 has no more than 53 binary digits
-pub power-exact : (k : ℕ) → k ≤ 22 → HasValue (double (10 ^ k)) false (10 ^ k) 1
-unfolding ofInt
-power-exact k h = scaled binary64 refl refl
-  where
-    scaled : (f : Format) → prec f ≡ 53 → emax f ≡ 1023 → HasValue (round f false (10 ^ k) 1) false (10 ^ k) 1
-    scaled f p e =
-        let q : 5 ^ k < 2 ^ prec f = rw p (lt-of-le-of-lt (pow-le-pow-right (lit< tt) h) (lit< tt)) in
-        let j = k + low f in
-        let v : 10 ^ k * 2 ^ low f ≡ 5 ^ k * 2 ^ j * 1 =
-        ap (λ (x : ℕ). x * 2 ^ low f) (five-two k) ∙ mul-assoc (5 ^ k) (2 ^ k) (2 ^ low f) ∙ ap (λ (x : ℕ). 5 ^ k * x) (sym (pow-add 2 k (low f))) ∙ sym (mul-one (5 ^ k * 2 ^ j)) in
-        let r : prec f + j ≤ low f + suc (emax f) = omega (arith, p, e, h) in
-        round-exact f false (10 ^ k) 1 (5 ^ k) j (lit< tt) q (lt-of-lt-of-le (shl-lt (prec f) j q) (pow-mono r)) v
-
--- and 10^23 is none, so 22 is the most
-pub power-inexact : HasValue (double (10 ^ 23)) false (10 ^ 23) 1 → ⊥
-unfolding ofInt round
-power-inexact h = true≢false (sym (ap (λ (n : ℕ). eqb n (10 ^ 23)) (h .1)))
 
 -- ---- a quotient of whole doubles is rounded once
 
