@@ -1,11 +1,12 @@
 -- What the comparisons of the program show of the definitions: the input tells every place, so there is one list, one record and one workspace
 -- to begin from. Assumes nothing.
-use Prim.Native.Nat.{ℕ, _+_, _*_, _≤_}
-use mathlib.Core.Path.{_≡_, sym, _∙_}
+use Prim.Native.Nat.{ℕ, _+_, _*_, _≤_, _<_}
+use mathlib.Core.Path.{_≡_, refl, sym, _∙_}
 use mathlib.Core.Bool.{Bool}
 use mathlib.Core.List.{List}
 use native.Mathlib.Nat.{le-refl}
-use lib.ListN.{length, replicate, length-replicate, getD-replicate}
+use native.Mathlib.Omega.{arith}
+use lib.ListN.{length, set, length-set, replicate, length-replicate, getD-replicate}
 use lib.Ieee.{Float, nan}
 use Rattle.real.specs.Each.{each}
 use Rattle.real.specs.Each.Laws.{length-each, is-each}
@@ -13,7 +14,7 @@ use Rattle.real.specs.Literals.{nought}
 use Rattle.vectors.specs.Words.{Tells}
 use Rattle.network.specs.Below.{Below}
 use Rattle.layout.specs.Table.{stores}
-use Rattle.layout.specs.Table.Laws.{stores-length, stores-at}
+use Rattle.layout.specs.Table.Laws.{stores-length, stores-at, Stored, stored-none, stored-next, stored-all}
 use Rattle.injections.specs.declared.Column.{Column}
 use Rattle.injections.specs.declared.Injections.{Injections}
 use Rattle.network.specs.Network.{tripletsOf}
@@ -23,8 +24,24 @@ use Rattle.injection_vectors.specs.Told.{wordsTold, doublesTold, triplet
 -- ---- lists and records
 
 -- a list that is written over whole is what was written, whatever it held
-pub written-over : {A : Type 0} (f : ℕ → A) (d : A) (l : List A) → stores f (length l) l ≡ each (length l) f
+written-over : {A : Type 0} (f : ℕ → A) (d : A) (l : List A) → stores f (length l) l ≡ each (length l) f
 written-over f d l = is-each (length l) f d (stores f (length l) l) (stores-length f (length l) l) (λ i h. stores-at f (length l) l i d h (le-refl (length l)))
+
+-- a loop that writes f over l has come to place k of `end`: at first, one place further, and at the end
+pub record WritingOver {A : Type 0} (f : ℕ → A) (l : List A) (end k : ℕ) (a : List A) : Type 0 where
+  pub whole : end ≡ length l
+  pub same : length a ≡ length l
+  pub stored : Stored f l (length l) k a
+
+module _ {A : Type 0} {f : ℕ → A} {l : List A} where
+  pub writing-none : WritingOver f l (length l) 0 l
+  writing-none = record { whole = refl; same = refl; stored = stored-none }
+
+  pub writing-next : {end k : ℕ} {a : List A} {v : A} → WritingOver f l end k a → k < end → v ≡ f k → WritingOver f l end (k + 1) (set a k v)
+  writing-next w h e = record { whole = w .whole; same = simp length-set (w .same); stored = stored-next (w .stored) (omega (arith, w .whole)) e }
+
+  pub writing-all : {end k : ℕ} {a : List A} (d : A) → WritingOver f l end k a → end ≤ k → a ≡ each (length l) f
+  writing-all d w h = stored-all (w .stored) (omega (arith, w .whole)) ∙ written-over f d l
 
 pub column-parts : (c : Column) (x y : List Float) → c .re ≡ x → c .im ≡ y → c ≡ record { re = x; im = y }
 column-parts c x y p q = rw (← p, ← q)

@@ -122,22 +122,22 @@ round-at-most k a b B h e =
 abbrev pub Small : Float → Type 0
 Small z = T (le (fin true 1 (pos 0)) z) × T (le z (fin false 1 (pos 0)))
 
-pub small-above : (z : Float) → AtMost 1 z → Small z
-unfolding le
-small-above nan h = absurd h
-small-above (inf s) h = absurd h
-small-above (fin true m e) h = absurd h
-small-above (fin false m e) h =
+-- a number that is at most 1, and its negative
+small-both : (z : Float) → AtMost 1 z → Small z × Small (neg z)
+unfolding le neg
+small-both nan h = absurd h
+small-both (inf s) h = absurd h
+small-both (fin true m e) h = absurd h
+small-both (fin false m e) h =
     let d = down-pos e in
     let x = m * up e * 1 in
-    (first (ltb 0 (1 * down e + x)) _ (lt→ltb 0 (1 * down e + x) (omega arith)), of-le x (1 * down e) (eqb x (1 * down e)) (λ p. eq→eqb p) (omega arith))
+    let y = 1 * down e in (
+      (first (ltb 0 (y + x)) _ (lt→ltb 0 (y + x) (omega arith)), of-le x y (eqb x y) (λ p. eq→eqb p) (omega arith)),
+      (of-le x y (eqb y x) (λ p. eq→eqb (sym p)) (omega arith), first (ltb 0 (x + y)) _ (lt→ltb 0 (x + y) (omega arith))),
+    )
+
+pub small-above : (z : Float) → AtMost 1 z → Small z
+small-above z h = small-both z h .0
 
 pub small-below : (z : Float) → AtMost 1 z → Small (neg z)
-unfolding le neg
-small-below nan h = absurd h
-small-below (inf s) h = absurd h
-small-below (fin true m e) h = absurd h
-small-below (fin false m e) h =
-    let d = down-pos e in
-    let x = m * up e * 1 in
-    (of-le x (1 * down e) (eqb (1 * down e) x) (λ p. eq→eqb (sym p)) (omega arith), first (ltb 0 (x + 1 * down e)) _ (lt→ltb 0 (x + 1 * down e) (omega arith)))
+small-below z h = small-both z h .1

@@ -1,8 +1,7 @@
 -- `lines::put_ok` meets its contract: its parts in turn. Assumes nothing.
-use native.Mathlib.Omega.{arith}
 use borrow.Author.Needs.{needs}
 use Rattle.lines.specs.Lines.{okLine}
-use Rattle.lines.specs.Lines.Laws.{then}
+use Rattle.lines.specs.Lines.Laws.{exactly, within}
 use Rattle.lines.proofs.put_ok.Statement.{statement}
 use Rattle.lines.proofs.put_ok.Tie as tie
 
@@ -13,7 +12,7 @@ returns c =
     let d = e .before .before .before .before in
     let b = d .before .before .before .before in
     let a = b .before .before .before .before in
-    (then (then (then (a .put .ensures) (b .put-count .ensures .0)) (d .put-gap .ensures .0)) (e .put-byte .ensures), omega (arith, a .put .ensures .ends, b .put-count .ensures .1, d .put-gap .ensures .1, e .put-byte .ensures .ends))
+    within 40 1 (within 23 17 (within 2 21 (exactly (a .put .ensures)) (b .put-count .ensures)) (d .put-gap .ensures)) (exactly (e .put-byte .ensures))
 
 pub put-ok-spec : {M : Type 1} → statement M
 put-ok-spec =

@@ -29,6 +29,13 @@ then {l} {m} {n} {a} {b} {at} {k} {r} u v = record {
   left = v .left ∙ rw (u .left, u .ends) (sets-append a b l at);
 }
 
+-- with a limit to the place after: known bytes end where they must, and the most that two writes take adds up
+pub exactly : {l m a : List ℕ} {at k : ℕ} → Wrote l at a k m → Wrote l at a k m × (k ≤ at + length a)
+exactly u = (u, omega (arith, u .ends))
+
+pub within : {l m n a b : List ℕ} {at k r : ℕ} (i j : ℕ) → Wrote l at a k m × (k ≤ at + i) → Wrote m k b r n × (r ≤ k + j) → Wrote l at (a ++ b) r n × (r ≤ at + (i + j))
+within i j u v = (then (u .0) (v .0), omega (arith, u .1, v .1))
+
 pub same-bytes : {l m a b : List ℕ} {at r : ℕ} → a ≡ b → Wrote l at a r m → Wrote l at b r m
 same-bytes e w = rw (← e) w
 

@@ -28,15 +28,10 @@ loop-again c =
     let g : dim - (left - 1) ≡ dim - left + 1 = omega arith in
     (omega arith, rw (g, ← known-turn, e) (s .loop .inv .1))
 
-returns : tie.Need-returns Inv-loop μ-loop
-returns c =
-    let s = c .before in
-    let e : s .loop .left ≡ 0 = omega arith in
-    rw (e, known-end) at (s .loop .inv .1)
-
 pub less-known-spec : {M : Type 1} → statement M
 less-known-spec =
     tie.close
     (tie.spec Inv-loop μ-loop (λ c. omega arith) (λ c. omega arith) (λ c. omega arith) (λ c. omega arith) (λ c. omega arith) loop-holds
     (λ c. omega arith) (λ c. omega arith) (λ c. omega arith) (λ c. omega arith) (λ c. omega arith) (λ c. omega arith) (λ c. omega arith)
-    (λ c. omega arith) (λ c. omega arith) (λ c. omega arith) loop-again returns)
+    (λ c. omega arith) (λ c. omega arith) (λ c. omega arith) loop-again
+    (λ c. let s = c .before in let e : s .loop .left ≡ 0 = omega arith in rw (e, known-end) at (s .loop .inv .1)))

@@ -31,14 +31,9 @@ loop-again c =
     (λ y. (omega arith, rw (y .1, y .2) (rw (e, pivot-not-above _ _ _ _ _ _ _ x (y .0 .left)) at (s .loop .inv .1))))
     (c .if1 .came)
 
-returns : tie.Need-returns Inv-loop μ-loop
-returns c =
-    let s = c .before in
-    let e : s .before .before .args .dim - s .loop .r ≡ 0 = omega arith in
-    rw (e, pivot-end) at (s .loop .inv .1)
-
 pub pivot-row-spec : {M : Type 1} → statement M
 pivot-row-spec =
     tie.close
     (tie.spec Inv-loop μ-loop loop-holds (λ c. omega arith) (λ c. omega arith) (λ c. omega arith) (λ c. omega arith) (λ c κs. search needs)
-    (λ c. omega arith) (λ c. omega arith) loop-again returns)
+    (λ c. omega arith) (λ c. omega arith) loop-again
+    (λ c. let s = c .before in let e : s .before .before .args .dim - s .loop .r ≡ 0 = omega arith in rw (e, pivot-end) at (s .loop .inv .1)))

@@ -46,14 +46,9 @@ loop-again c =
       rw (lower .ensures, swap .ensures) (rw (e, reduce-on _ _ _ _ _ _ (pivot .ensures) (if1 .left)) at (s .loop .inv .2)),
     )
 
-returns-2 : tie.Need-returns-2 Inv-loop μ-loop
-returns-2 c =
-    let s = c .before in
-    let e : s .before .before .args .dim - s .loop .col ≡ 0 = omega arith in
-    rw (e, reduce-end) at (s .loop .inv .2)
-
 pub reduce-rows-spec : {M : Type 1} → statement M
 reduce-rows-spec =
     tie.close
     (tie.spec Inv-loop μ-loop loop-holds (λ c κs. omega arith) (λ c. omega arith) returns swap-rows-requires (λ c κs. omega arith) (λ c. omega arith)
-    (λ c. omega arith) loop-again (λ c. omega arith) returns-2)
+    (λ c. omega arith) loop-again (λ c. omega arith)
+    (λ c. let s = c .before in let e : s .before .before .args .dim - s .loop .col ≡ 0 = omega arith in rw (e, reduce-end) at (s .loop .inv .2)))

@@ -26,15 +26,10 @@ loop-again c =
     let e : dim - s .loop .r ≡ suc (dim - (s .loop .r + 1)) = omega arith in
     (omega arith, omega arith, call .kept .0 ∙ s .loop .inv .2, rw (call .ensures) (rw (e, lower-turn) at (s .loop .inv .3)))
 
-returns : tie.Need-returns Inv-loop μ-loop
-returns c =
-    let s = c .before in
-    let e : s .before .before .args .dim - s .loop .r ≡ 0 = omega arith in
-    rw (e, lower-end) at (s .loop .inv .3)
-
 pub sub-lower-spec : {M : Type 1} → statement M
 sub-lower-spec =
     tie.close
     (tie.spec Inv-loop μ-loop (λ c. omega arith) loop-holds (λ c. omega arith) (λ c. omega arith) (λ c. omega arith) (λ c. omega arith)
     (λ c. omega arith) (λ c. omega arith) (λ c. omega arith) (λ c. omega arith) (λ c κs. omega arith) (λ c. omega arith) (λ c. omega arith) loop-again
-    (λ c. omega arith) returns)
+    (λ c. omega arith)
+    (λ c. let s = c .before in let e : s .before .before .args .dim - s .loop .r ≡ 0 = omega arith in rw (e, lower-end) at (s .loop .inv .3)))

@@ -23,14 +23,9 @@ loop-again c =
     let e : s .loop .left ≡ suc (s .loop .left - 1) = omega arith in
     (omega arith, simp length-set (s .loop .inv .1), rw (c .before .less-known .ensures) (rw (e, substitute-turn) at (s .loop .inv .2)))
 
-returns : tie.Need-returns Inv-loop μ-loop
-returns c =
-    let s = c .before in
-    let e : s .loop .left ≡ 0 = omega arith in
-    rw (e, substitute-end) at (s .loop .inv .2)
-
 pub substitute-back-spec : {M : Type 1} → statement M
 substitute-back-spec =
     tie.close
     (tie.spec Inv-loop μ-loop loop-holds (λ c. omega arith) (λ c κs. omega arith) (λ c. omega arith) (λ c. omega arith) (λ c. omega arith)
-    (λ c. omega arith) (λ c. omega arith) (λ c. omega arith) (λ c. omega arith) (λ c. omega arith) loop-again (λ c. omega arith) returns)
+    (λ c. omega arith) (λ c. omega arith) (λ c. omega arith) (λ c. omega arith) (λ c. omega arith) loop-again (λ c. omega arith)
+    (λ c. let s = c .before in let e : s .loop .left ≡ 0 = omega arith in rw (e, substitute-end) at (s .loop .inv .2)))

@@ -5,15 +5,6 @@ use Rattle.vectors.specs.Words.Laws.{found-told, no-record}
 use Rattle.linsolve_vectors.proofs.next.Statement.{statement}
 use Rattle.linsolve_vectors.proofs.next.Tie as tie
 
-returns : tie.Need-returns
-returns c = no-record (omega arith) (omega arith)
-
-returns-2 : tie.Need-returns-2
-returns-2 c = no-record (omega arith) (omega arith)
-
-returns-3 : tie.Need-returns-3
-returns-3 c = no-record (omega arith) (omega arith)
-
 returns-4 : tie.Need-returns-4
 returns-4 c =
     let word = c .before .before .before .before .before .before .before .before .before .before .before .before .word .ensures in
@@ -22,5 +13,6 @@ returns-4 c =
 pub next-spec : {M : Type 1} → statement M
 next-spec =
     tie.close
-    (tie.spec (λ c κs. search needs) returns (λ c κs. search needs) returns-2 (λ c κs. search needs) (λ c. search needs) (λ c κs. search needs)
-    returns-3 (λ c κs. search needs) (λ c κs. search needs) (λ c κs. search needs) returns-4)
+    (tie.spec (λ c κs. search needs) (λ c. no-record (omega arith) (omega arith)) (λ c κs. search needs) (λ c. no-record (omega arith) (omega arith))
+    (λ c κs. search needs) (λ c. search needs) (λ c κs. search needs) (λ c. no-record (omega arith) (omega arith)) (λ c κs. search needs)
+    (λ c κs. search needs) (λ c κs. search needs) returns-4)

@@ -14,17 +14,11 @@ returns-2 c = let r = c .before in rw (r .before .if1 .left, ← r .is-nan .ensu
 
 returns-3 : tie.Need-returns-3
 unfolding betterOf
-returns-3 c =
-    let b = c .before in
-    let r = b .before .before in
-    rw (r .before .if1 .left, ← r .is-nan .ensures, b .before .if2 .left, ← b .is-nan2 .ensures, c .if3 .taken)
+returns-3 c = let r = c .before .before .before in rw (r .before .if1 .left, ← r .is-nan .ensures, c .before .before .if2 .left, ← c .before .is-nan2 .ensures, c .if3 .taken)
 
 returns-4 : tie.Need-returns-4
 unfolding betterOf
-returns-4 c =
-    let b = c .before in
-    let r = b .before .before in
-    rw (r .before .if1 .left, ← r .is-nan .ensures, b .before .if2 .left, ← b .is-nan2 .ensures, c .if3 .left)
+returns-4 c = let r = c .before .before .before in rw (r .before .if1 .left, ← r .is-nan .ensures, c .before .before .if2 .left, ← c .before .is-nan2 .ensures, c .if3 .left)
 
 pub better-spec : {M : Type 1} → statement M
 better-spec = tie.close (tie.spec returns (λ c κs. search needs) returns-2 (λ c κs. search needs) returns-3 returns-4)

@@ -47,30 +47,30 @@ kept : (c : tie.Joined1 Inv-loop μ-loop)
     → c .if1 .best ≡ cond (c .before .better .result) (c .before .before .before .before .solve-qlim .result) (c .before .before .before .before .before .before .before .before .loop .best)
 kept c = ⊎-elim (λ y. rw (y .0 .taken) (y .1)) (λ y. rw (y .0 .left) (y .1)) (c .if1 .came)
 
+-- from the verdict of a turn back to its rounds, and to its start
+abbrev rounds : tie.After-verdict Inv-loop μ-loop → tie.After-solve-qlim Inv-loop μ-loop
+rounds j = j .before .before .before .before .before
+
+abbrev started : tie.After-verdict Inv-loop μ-loop → tie.After-start-at Inv-loop μ-loop
+started j = rounds j .before .before
+
 returns : tie.Need-returns Inv-loop μ-loop
 returns c =
     let j = c .before .before in
-    let k = j .before in
-    let y = k .before in
-    let q = y .before .before .before in
-    let p = q .before .before in
-    let l = p .before .before in
     let below = verdict-below _ _ _ _ (j .verdict .ensures) _ _ (c .enum-told2 .given .1) in
-    sym (search-ends _ _ _ _ _ _ _ _ _ _ (p .start-at .ensures) _ _ (q .solve-qlim .ensures) _ (y .better .ensures) _ (kept k) _ (verdict-solved _ _ _ _ (j .verdict .ensures) below) below)
-    ∙ (rw (fuel _ _ (p .before .loop-test .taken)) at (l .loop .inv .2))
+    let solved = verdict-solved _ _ _ _ (j .verdict .ensures) below in
+    sym (search-ends _ _ _ _ _ _ _ _ _ _ (started j .start-at .ensures) _ _ (rounds j .solve-qlim .ensures) _ (j .before .before .better .ensures) _ (kept (j .before)) _ solved below)
+    ∙ (rw (fuel _ _ (started j .before .loop-test .taken)) at (started j .before .before .loop .inv .2))
 
 loop-again : tie.Need-loop-again Inv-loop μ-loop
 loop-again c =
     let j = c .before .before in
-    let k = j .before in
-    let y = k .before in
-    let q = y .before .before .before in
-    let p = q .before .before in
+    let p = started j in
     let l = p .before .before in
     let above = verdict-above _ _ _ _ (j .verdict .ensures) _ _ (c .enum-told .given .1) in (
       omega (arith, p .before .loop-test .taken),
-      q .solve-qlim .kept .1 .1 .1 .1 .1 .1 .1 .1 .1 .1 .1 .1 .1 .0 ∙ l .loop .inv .1,
-      sym (search-on _ _ _ _ _ _ _ _ _ _ (p .start-at .ensures) _ _ (q .solve-qlim .ensures) _ (y .better .ensures) _ (kept k) above)
+      rounds j .solve-qlim .kept .1 .1 .1 .1 .1 .1 .1 .1 .1 .1 .1 .1 .1 .0 ∙ l .loop .inv .1,
+      sym (search-on _ _ _ _ _ _ _ _ _ _ (p .start-at .ensures) _ _ (rounds j .solve-qlim .ensures) _ (j .before .before .better .ensures) _ (kept (j .before)) above)
           ∙ (rw (fuel _ _ (p .before .loop-test .taken)) at (l .loop .inv .2)),
     )
 

@@ -2,11 +2,5 @@
 use Rattle.real.proofs.if_at.Statement.{statement}
 use Rattle.real.proofs.if_at.Tie as tie
 
-returns : tie.Need-returns
-returns c = rw (c .if1 .taken)
-
-returns-2 : tie.Need-returns-2
-returns-2 c = rw (c .if1 .left)
-
 pub if-at-spec : {M : Type 1} → statement M
-if-at-spec = tie.close (tie.spec returns returns-2)
+if-at-spec = tie.close (tie.spec (λ c. rw (c .if1 .taken)) (λ c. rw (c .if1 .left)))

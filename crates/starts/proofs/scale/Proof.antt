@@ -3,14 +3,9 @@ use borrow.Author.Needs.{needs}
 use Rattle.starts.proofs.scale.Statement.{statement}
 use Rattle.starts.proofs.scale.Tie as tie
 
-returns-2 : tie.Need-returns-2
-returns-2 c = rw (c .before .enum-told2 .given .1, c .mix .ensures)
-
-returns-3 : tie.Need-returns-3
-returns-3 c = rw (c .before .enum-told3 .given .1, c .mix2 .ensures)
-
 pub scale-spec : {M : Type 1} → statement M
 scale-spec =
     tie.close
     (tie.spec (λ c. search needs) (λ c. search needs) (λ c. search needs) (λ c κs. search needs) (λ c. search needs) (λ c. search needs)
-    (λ c κs. search needs) (λ c. search needs) returns-2 returns-3)
+    (λ c κs. search needs) (λ c. search needs) (λ c. rw (c .before .enum-told2 .given .1, c .mix .ensures))
+    (λ c. rw (c .before .enum-told3 .given .1, c .mix2 .ensures)))

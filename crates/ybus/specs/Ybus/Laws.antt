@@ -10,7 +10,7 @@ use borrow.Author.Tests.{eqb-true, ne-eqb}
 use lib.Dec.{eqb}
 use lib.ListN.{length, set, replicate, length-replicate, length-append, length-drop}
 use lib.Seq.{take-at}
-use lib.Ieee.{nan}
+use lib.Ieee.{Float, nan}
 use Rattle.real.specs.Literals.{nought}
 use Rattle.complex.specs.declared.Complex.{Complex}
 use Rattle.complex.specs.Numbers as Numbers
@@ -99,19 +99,21 @@ module _ (n : ℕ) (t : BranchTable) (fit : Fit n t) where
       table-at 32 Numbers.zero (diagonal m (t .ends) (λ e. admittanceAt y e .ff) (λ e. admittanceAt y e .tt)) b _ (omega arith) (le-refl 32)
       ∙ diagonal-ext m (t .ends) _ _ _ _ b (λ e l. rw (admittance-at m (t .values) e l some)) (λ e l. rw (admittance-at m (t .values) e l some))
 
-  res-are : listed n (λ i. sumAt (sumsTo m (t .ends) y) i .re) m (λ k. admittanceAt y k .ft .re) (λ k. admittanceAt y k .tf .re) ≡ ybusOf n t .re
-  unfolding ybusOf
-  res-are =
+  -- a part of each number, its real one or its imaginary one
+  parts-are : (part : Complex → Float) → listed n (λ b. part (sumAt (sumsTo m (t .ends) y) b)) m (λ e. part (admittanceAt y e .ft)) (λ e. part (admittanceAt y e .tf))
+      ≡ listed n (λ b. part (diagonalOf t b)) m (λ e. part (y-ft (branchAt (t .values) e))) (λ e. part (y-tf (branchAt (t .values) e)))
+  parts-are part =
       let at = admittance-at m (t .values) in
       let some = fit .ends .few in
-      listed-ext n _ _ m _ _ _ _ (λ b h. rw (sum-at b h)) (λ k h. rw (at k h some)) (λ k h. rw (at k h some))
+      listed-ext n _ _ m _ _ _ _ (λ b h. rw (sum-at b h)) (λ e h. rw (at e h some)) (λ e h. rw (at e h some))
 
-  ims-are : listed n (λ i. sumAt (sumsTo m (t .ends) y) i .im) m (λ k. admittanceAt y k .ft .im) (λ k. admittanceAt y k .tf .im) ≡ ybusOf n t .im
+  res-are : listed n (λ b. sumAt (sumsTo m (t .ends) y) b .re) m (λ e. admittanceAt y e .ft .re) (λ e. admittanceAt y e .tf .re) ≡ ybusOf n t .re
   unfolding ybusOf
-  ims-are =
-      let at = admittance-at m (t .values) in
-      let some = fit .ends .few in
-      listed-ext n _ _ m _ _ _ _ (λ b h. rw (sum-at b h)) (λ k h. rw (at k h some)) (λ k h. rw (at k h some))
+  res-are = parts-are (λ z. z .re)
+
+  ims-are : listed n (λ b. sumAt (sumsTo m (t .ends) y) b .im) m (λ e. admittanceAt y e .ft .im) (λ e. admittanceAt y e .tf .im) ≡ ybusOf n t .im
+  unfolding ybusOf
+  ims-are = parts-are (λ z. z .im)
 
   rows-are : listed n (λ i. i) m (fromOf (t .ends)) (toOf (t .ends)) ≡ ybusOf n t .row
   unfolding ybusOf
