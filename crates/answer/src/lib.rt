@@ -1,4 +1,6 @@
 // The answer of a case text: the text is read by the rules of its edition, and the tables that it holds are solved.
+#![tactic(auto)]
+
 ghost use Rattle.std.specs.Prelude.{◌≡◌};
 ghost use Rattle.outcome.specs.Outcome.{outs};
 ghost use Rattle.answered.specs.TextAnswer.{answeredWith, Few, textAnswerOf};

@@ -1,4 +1,6 @@
 // What a case text is answered.
+#![tactic(auto)]
+
 use case_text::Reading;
 use flows::Flows;
 use outcome::Outcome;

@@ -1,4 +1,6 @@
 // What is checked of the rows of tables of branches: bus numbers, then taps and ends.
+#![tactic(auto)]
+
 ghost use Rattle.std.specs.Prelude.{◌≡◌, length};
 ghost use Rattle.network.specs.Network.{branchesOf};
 ghost use Rattle.branch_checks.specs.BranchChecks.{faultRefusal, checkedRows};

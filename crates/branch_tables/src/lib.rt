@@ -1,5 +1,7 @@
 // The solve over tables of branches: the public call. The list of the admittance matrix's entries is built from the branches, the tables with that list as their
 // triplets are solved as those of the first edition are, and a solved answer is given the flows of its branches.
+#![tactic(auto)]
+
 ghost use Rattle.std.specs.Prelude.{◌≡◌, List, length, Float};
 ghost use Rattle.network.specs.Network.{busesOf, slacksOf, generatorsOf, branchesOf};
 ghost use Rattle.network.specs.BranchTable.{BranchNetwork, values_of, branchTableOf, branchNetworkOf};

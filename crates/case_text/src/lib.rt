@@ -1,4 +1,6 @@
 // What a case text of either edition is answered: its length, its trailer, its alphabet, its sections in turn, and the room in the columns.
+#![tactic(auto)]
+
 ghost use Rattle.std.specs.Prelude.{◌≡◌, true, ◌+◌, ◌≤◌, length};
 ghost use Rattle.std.proofs.Math.Seq.{slice};
 ghost use Rattle.fields.specs.Cut.{has};

@@ -1,5 +1,7 @@
 // The columns of a case text: field j of each line of a section goes to one place per row. The section stands from a up to e and was found good;
 // a column has a place for each of its rows.
+#![tactic(auto)]
+
 ghost use Rattle.std.specs.Prelude.{◌≡◌, ◌+◌, ◌≤◌, ◌<◌, [], length, get_or};
 ghost use Rattle.std.proofs.Math.Seq.{slice};
 ghost use Rattle.fields.specs.Cut.{pieces};

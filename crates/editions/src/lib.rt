@@ -1,4 +1,6 @@
 // The readers of one edition each: a text by that edition's rules, into its columns.
+#![tactic(auto)]
+
 ghost use Rattle.std.specs.Prelude.{◌≡◌, min};
 ghost use Rattle.network.specs.Network.{busesOf, slacksOf, generatorsOf, branchesOf, tripletsOf, networkOf};
 ghost use Rattle.network.specs.BranchTable.{values_of, branchTableOf, branchNetworkOf};

@@ -1,4 +1,6 @@
 // The fields of a case text: a bus number, a real, and `?` for NaN. Each function reads the field that stands from a up to e.
+#![tactic(auto)]
+
 ghost use Rattle.std.specs.Prelude.{◌≡◌, ◌^◌, ◌<◌, ◌≤◌, length};
 ghost use Rattle.std.specs.Float.{binary64};
 ghost use Rattle.std.specs.Float.Ieee.{div};

@@ -1,4 +1,6 @@
 // The answer of a case text of the first edition.
+#![tactic(auto)]
+
 ghost use Rattle.std.specs.Prelude.{◌≡◌, List, Float};
 ghost use Rattle.network.specs.Network.{Network, busesOf, slacksOf, generatorsOf, branchesOf, tripletsOf, networkOf, RoomFor, firstRows};
 ghost use Rattle.outcome.specs.Outcome.{Outs, outs, paperOf};

@@ -1,4 +1,6 @@
 // Of sens/ac.rs: the power that enters a branch at each of its ends, and what the branch loses.
+#![tactic(auto)]
+
 ghost use Rattle.std.specs.Prelude.{◌≡◌, length, ◌<◌};
 ghost use Rattle.network.specs.Below.{Below};
 ghost use Rattle.network.specs.Network.{branchesOf};

@@ -1,5 +1,7 @@
 // Works out the injections and the Jacobian at the points of its input and compares them, and every place of the workspace, with what the input
 // says (oracle/injection_vectors.py has the format).
+#![tactic(auto)]
+
 ghost use Rattle.std.specs.Prelude.{◌≡◌, ◌+◌, ◌*◌, ◌≤◌, ◌<◌, length};
 ghost use Rattle.network.specs.Below.{Below};
 ghost use Rattle.network.specs.Network.{tripletsOf};

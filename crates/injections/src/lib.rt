@@ -1,4 +1,6 @@
 // Of pf_ac.rs: the injections that voltages give, and the Jacobian of the power flow, added into the workspace.
+#![tactic(auto)]
+
 ghost use Rattle.std.specs.Prelude.{◌≡◌, ◌<◌, ◌≤◌, length, get_or};
 ghost use Rattle.network.specs.Below.{Below};
 ghost use Rattle.network.specs.Network.{Triplets, tripletsOf};

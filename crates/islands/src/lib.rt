@@ -1,4 +1,6 @@
 // Islands: the buses that lines join, numbered in the order of each island's first bus.
+#![tactic(auto)]
+
 ghost use Rattle.std.specs.Prelude.{◌≡◌, ℕ, ◌<◌, ◌≤◌};
 ghost use Rattle.real.specs.Each.{each};
 ghost use Rattle.islands.specs.Forest.{Forest, Grown, joinedRoot, orInsert};

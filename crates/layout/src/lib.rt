@@ -1,4 +1,6 @@
 // Of pf_ac.rs: bus kinds, the layout of unknowns and equations, the residual, the summed limits.
+#![tactic(auto)]
+
 ghost use Rattle.std.specs.Prelude.{◌≡◌, ◌+◌, ◌<◌, ◌≤◌, length, get_or};
 ghost use Rattle.network.specs.Below.{Below};
 ghost use Rattle.layout.specs.Table.{table};

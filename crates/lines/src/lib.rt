@@ -1,4 +1,6 @@
 // The lines that the solve program prints, written byte by byte into a lent buffer. Each function answers the place after what it wrote.
+#![tactic(auto)]
+
 ghost use Rattle.std.specs.Prelude.{[], ◌∷◌, ◌+◌, ◌*◌, ◌≤◌, length};
 ghost use Rattle.real.specs.declared.Value.TheVariants.{Whole, Real};
 ghost use Rattle.lines.specs.Lines.{Wrote, printedDecimal, printedReal, printedValue, okLine, fourReals, busLine, busLines, branchLine, branchLines, head_of, refusedLine};

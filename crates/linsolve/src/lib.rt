@@ -1,5 +1,7 @@
 // The dense linear solve of at most 64 unknowns over the lent workspace: row r, column c of the matrix stands at r * 64 + c,
 // the right side of row r at 4096 + r. The solution is left in the right side's places.
+#![tactic(auto)]
+
 ghost use Rattle.std.specs.Prelude.{◌≡◌, ◌+◌, ◌-◌, ◌*◌, ◌≤◌, ◌<◌, length};
 ghost use Rattle.real.specs.Literals.{nought};
 ghost use Rattle.linsolve.specs.Linear.{at, zeroed, cleared, added, pivotFrom, swapped, swapRows, subRow, afterPivot, subLower, outcome, reduce, lessKnown, substitute, solution};

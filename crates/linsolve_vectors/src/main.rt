@@ -1,5 +1,7 @@
 // Solves the systems of its input and compares the answer and every place of the workspace with what the input says
 // (oracle/linsolve_vectors.py has the format). Places outside a system hold a mark of their own, which must stay.
+#![tactic(auto)]
+
 ghost use Rattle.std.specs.Prelude.{◌≡◌, ◌+◌, ◌*◌, ◌≤◌, ◌<◌, length};
 ghost use Rattle.vectors.specs.Words.{word_of, Tells, Found};
 ghost use Rattle.linsolve_vectors.specs.Told.{size_of, slot_of, mark_of, toldOf, Holds, number_of, Agrees};

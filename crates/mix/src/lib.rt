@@ -1,4 +1,6 @@
 // A number from -1 to 1 made of two words, as the Rust's `mix`: 64-bit arithmetic that drops carries.
+#![tactic(auto)]
+
 ghost use Rattle.std.specs.Prelude.{◌≡◌};
 ghost use Rattle.mix.specs.Noise.{times, mixOf};
 

@@ -1,4 +1,6 @@
 // Of solve_qlim in pf_ac.rs: what becomes of each bus between two rounds. Every bus is tested against the figures of Newton's end, and then all move at once.
+#![tactic(auto)]
+
 ghost use Rattle.std.specs.Prelude.{◌≡◌, ◌≤◌, length};
 ghost use Rattle.moves.specs.Moves.{movePv, movePq, move_of, is_move, kindAfter, schedAfter, convertedAfter, revertedAfter, pinOf, schedAt, kindLetter};
 ghost use Rattle.moves.specs.Moves.{moves_of, anyGenerator, anyMove, kindsAfter, trackAfter, pinned, scheduleOf, keptKinds, lettersOf};

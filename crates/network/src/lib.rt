@@ -1,4 +1,6 @@
 // The tables of a case: how many rows each has, and what 01 asks of them before anything is worked out.
+#![tactic(auto)]
+
 ghost use Rattle.std.specs.Prelude.{◌≡◌, length};
 ghost use Rattle.real.specs.First.{firstBelow};
 ghost use Rattle.network.specs.Network.{busesOf, slacksOf, generatorsOf, branchesOf, tripletsOf, networkOf, fits_of};

@@ -1,4 +1,6 @@
 // Of pf_ac.rs: take_step and newton. Newton's steps at one typing of the buses, from a start, with a search for the step's length.
+#![tactic(auto)]
+
 ghost use Rattle.std.specs.Prelude.{◌≡◌, ◌≤◌, length};
 ghost use Rattle.real.specs.Literals.{one};
 ghost use Rattle.linsolve.specs.Linear.{outcome};

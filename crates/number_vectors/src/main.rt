@@ -1,5 +1,7 @@
 // Compares sin_cos and mix, bit for bit, with vectors that another implementation of the rules made (oracle/number_vectors.py).
 // Standard input holds vectors of four big-endian words: 0, x, its sine, its cosine; or 1, a, b, mix(a, b).
+#![tactic(auto)]
+
 ghost use Rattle.std.specs.Prelude.{◌+◌, ◌*◌, ◌≤◌, length};
 ghost use Rattle.number_vectors.specs.Vectors.{SinCosHolds, MixHolds, Holds, Agreeing};
 ghost use Rattle.vectors.specs.Words.{Tells};

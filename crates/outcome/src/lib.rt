@@ -1,4 +1,6 @@
 // What a solve over tables answers, and what it writes: the refusals, the five answer columns, the workspace.
+#![tactic(auto)]
+
 ghost use Rattle.std.specs.Prelude.{◌≡◌, ◌≤◌, length, get_or};
 ghost use Rattle.std.specs.Float.{nan};
 ghost use Rattle.layout.specs.Table.{stores};

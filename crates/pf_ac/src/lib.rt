@@ -1,4 +1,6 @@
 // Of pf_ac.rs: ac_pf_with_start. The starts in turn, each through the limit rounds; the best result is kept, and the first below the tolerance ends it.
+#![tactic(auto)]
+
 ghost use Rattle.std.specs.Prelude.{◌≡◌, ◌≤◌, ◌<◌, length, get_or};
 ghost use Rattle.std.specs.Float.{nan};
 ghost use Rattle.real.specs.Literals.{nought};

@@ -1,5 +1,7 @@
 // Of pf_ac.rs: solve_qlim. Rounds of Newton's steps, after each of which buses with generators past their reactive limits are converted, and converted ones
 // that could hold their voltage reverted.
+#![tactic(auto)]
+
 ghost use Rattle.std.specs.Prelude.{◌≡◌, ◌≤◌, length};
 ghost use Rattle.network.specs.Network.{tripletsOf};
 ghost use Rattle.injections.specs.Injections.{injectedOf};

@@ -1,4 +1,6 @@
 // The reading call: a case text of either edition is told which it is, and read by that edition's rules.
+#![tactic(auto)]
+
 ghost use Rattle.std.specs.Prelude.{◌≡◌};
 ghost use Rattle.network.specs.Network.{busesOf, slacksOf, generatorsOf, branchesOf, tripletsOf, networkOf};
 ghost use Rattle.network.specs.BranchTable.{values_of, branchTableOf};

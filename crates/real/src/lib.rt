@@ -1,4 +1,6 @@
 // What the Rust takes from f64: is_nan, is_finite, abs, max; and inf_norm. The literals and the small tests that the crates above share.
+#![tactic(auto)]
+
 ghost use Rattle.std.specs.Prelude.{◌≡◌, ◌||◌, ◌≤◌, min};
 ghost use Rattle.std.specs.Float.Ieee.{is_nan};
 ghost use Rattle.std.specs.Float.Ieee.Scale.{finite};

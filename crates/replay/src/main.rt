@@ -1,5 +1,7 @@
 // Replays the list in the file `texts` (oracle/replay.py has the format): reports each text and compares every byte with the answer that the
 // list holds.
+#![tactic(auto)]
+
 ghost use Rattle.std.specs.Prelude.{◌≡◌, length};
 ghost use Rattle.vectors.specs.Words.{Tells, Found};
 ghost use Rattle.replay.specs.Replay.{bytes_of, Answered};

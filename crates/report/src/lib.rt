@@ -1,4 +1,6 @@
 // The report: from the bytes of a case text to the bytes that the solve program prints.
+#![tactic(auto)]
+
 ghost use Rattle.std.specs.Prelude.{◌≤◌, length};
 ghost use Rattle.io.specs.Counts.{IsPrefixLen};
 ghost use Rattle.case_text.specs.Answer as Reader;

@@ -1,4 +1,6 @@
 // The lines of a case text, and its sections. Each function looks at what stands from a up to e.
+#![tactic(auto)]
+
 ghost use Rattle.std.specs.Prelude.{◌≡◌, ◌≤◌, length};
 ghost use Rattle.std.proofs.Math.Seq.{slice};
 ghost use Rattle.fields.specs.Cut.{pieces};

@@ -1,4 +1,6 @@
 // The answer of a case text of the second edition.
+#![tactic(auto)]
+
 ghost use Rattle.std.specs.Prelude.{◌≡◌, List, Float};
 ghost use Rattle.network.specs.Network.{busesOf, slacksOf, generatorsOf, branchesOf};
 ghost use Rattle.network.specs.BranchTable.{BranchNetwork, values_of, branchTableOf, branchNetworkOf, RoomForBranches, firstBranchRows};

@@ -1,4 +1,6 @@
 // The solve program: a case text on standard input, its report on standard output.
+#![tactic(auto)]
+
 use libc::{STDIN_FILENO, STDOUT_FILENO};
 
 fn main() {

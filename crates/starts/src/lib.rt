@@ -1,4 +1,6 @@
 // Of pf_ac.rs: AcStart, island_references, case_start and the other starts of ac_pf_with_start.
+#![tactic(auto)]
+
 ghost use Rattle.std.specs.Prelude.{◌≡◌, ◌≤◌, ◌<◌, length};
 ghost use Rattle.network.specs.Below.{Below};
 ghost use Rattle.islands.specs.Islands.{Ends};

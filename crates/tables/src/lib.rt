@@ -1,4 +1,6 @@
 // The solve over tables: the public call. Counts, lengths and bus numbers are checked, in that order, before anything is written.
+#![tactic(auto)]
+
 ghost use Rattle.std.specs.Prelude.{◌≡◌, ◌≤◌, length, List, Float};
 ghost use Rattle.network.specs.Network.{Network, busCount, busesOf, slacksOf, generatorsOf, branchesOf, tripletsOf, networkOf};
 ghost use Rattle.network.specs.Checks.{WellIndexed};

@@ -1,5 +1,7 @@
 // Runs read_case on the texts of its input, good and damaged, and compares the answer and every place of every column with what the input says
 // (oracle/text_vectors.py has the format). Before each reading a column holds a mark in every place, and it must still do so past the rows.
+#![tactic(auto)]
+
 ghost use Rattle.std.specs.Prelude.{◌≡◌, ◌+◌, ◌*◌, ◌≤◌, ◌<◌, take};
 ghost use Rattle.vectors.specs.Words.{pair_of, Tells, Found};
 ghost use Rattle.network.specs.Network.{busesOf, slacksOf, generatorsOf, branchesOf, tripletsOf, firstBuses, firstSlacks, firstGenerators, firstBranches, firstTriplets};

@@ -1,4 +1,6 @@
 // The trailer of a case text: of which edition the text is, which start it asks for, and where its sections stand.
+#![tactic(auto)]
+
 ghost use Rattle.std.specs.Prelude.{◌≡◌, ◌+◌, ◌*◌, ◌≤◌, ◌<◌, length};
 ghost use Rattle.trailer.specs.Trailer.{groups_of, width_of, trailerLength, trailerStart, groupAt, start_at, groupNumber, risingOf, flatLetter, caseLetter, flagged, mode_of, editionOf};
 ghost use Rattle.trailer.specs.Trailer.{trailerBy, trailerOf, index_of, behindG, last_of, sectionStart, sectionEnd, places_of};

@@ -1,4 +1,6 @@
 // Of ac.rs: the admittances of a branch, the list of the admittance matrix's entries that the branches give, and the first branch at fault.
+#![tactic(auto)]
+
 ghost use Rattle.std.specs.Prelude.{◌≡◌, ◌<◌, ◌≤◌, length, get_or, replicate};
 ghost use Rattle.real.specs.First.{firstBelow};
 ghost use Rattle.network.specs.Below.{Below};
