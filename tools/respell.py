@@ -97,7 +97,7 @@ for f in antt:
     out = token.sub(lambda m: new.get(m.group(0), m.group(0)), text)
     if out != text:
         open(f, 'w', encoding='utf8').write(out)
-ghost = {a: b for a, b in new.items() if a not in source}
+ghost = {a: b for a, b in new.items() if re.search(r'[a-z]-[a-z]|[a-z][A-Z]', a)}
 for f in rt:
     lines = []
     for line in texts[f].split('\n'):

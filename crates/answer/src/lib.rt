@@ -3,7 +3,7 @@
 
 ghost use Rattle.std.specs.Prelude.{◌≡◌};
 ghost use Rattle.outcome.specs.Outcome.{outs};
-ghost use Rattle.answered.specs.TextAnswer.{answeredWith, Few, textAnswerOf};
+ghost use Rattle.answered.specs.TextAnswer.{answered_with, Few, text_answer_of};
 
 use answered::FlowAnswer;
 use trailer::Edition;
@@ -20,7 +20,7 @@ pub fn answer(
 ) -> FlowAnswer
     ensures { let o = outs vm.old va.old p.old q.old kinds.old in
         let e = outs vm.new va.new p.new q.new kinds.new in
-        (answeredWith result.answered e result.flows w.new ≡ textAnswerOf text.now o w.old) × Few result.answered }
+        (answered_with result.answered e result.flows w.new ≡ text_answer_of text.now o w.old) × Few result.answered }
 {
     let x = trailer::edition_of(text);
     match x {

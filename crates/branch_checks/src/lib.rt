@@ -2,15 +2,15 @@
 #![tactic(auto)]
 
 ghost use Rattle.std.specs.Prelude.{◌≡◌, length};
-ghost use Rattle.network.specs.Network.{branchesOf};
-ghost use Rattle.branch_checks.specs.BranchChecks.{faultRefusal, checkedRows};
+ghost use Rattle.network.specs.Network.{branches_of};
+ghost use Rattle.branch_checks.specs.BranchChecks.{fault_refusal, checked_rows};
 
 use outcome::{Checked, Outcome};
 use ybus::Fault;
 
 // The refusal of a branch at fault, or none: 14 or 15.
 fn fault_refusal(f: Fault) -> Checked
-    ensures { result ≡ faultRefusal f }
+    ensures { result ≡ fault_refusal f }
 {
     match f {
         Fault::Tap(row) => Checked::Refused(Outcome::Tap { row }),
@@ -29,7 +29,7 @@ pub fn check_rows(
     tap: &[f64],
 ) -> Checked
     requires { (length to.now ≡ length from.now) × (length tap.now ≡ length from.now) }
-    ensures { result ≡ checkedRows n slacks.now gen_bus.now (branchesOf from.now to.now) tap.now }
+    ensures { result ≡ checked_rows n slacks.now gen_bus.now (branches_of from.now to.now) tap.now }
 {
     let c = outcome::bus_refusal(network::missing_bus(
         n,

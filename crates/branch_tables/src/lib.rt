@@ -3,14 +3,14 @@
 #![tactic(auto)]
 
 ghost use Rattle.std.specs.Prelude.{◌≡◌, List, length, Float};
-ghost use Rattle.network.specs.Network.{busesOf, slacksOf, generatorsOf, branchesOf};
-ghost use Rattle.network.specs.BranchTable.{BranchNetwork, values_of, branchTableOf, branchNetworkOf};
-ghost use Rattle.outcome.specs.Outcome.{Outs, outs, lengthsOf, lengthsIn, paperOf};
+ghost use Rattle.network.specs.Network.{buses_of, slacks_of, generators_of, branches_of};
+ghost use Rattle.network.specs.BranchTable.{BranchNetwork, values_of, branch_table_of, branch_network_of};
+ghost use Rattle.outcome.specs.Outcome.{Outs, outs, lengths_of, lengths_in, paper_of};
 ghost use Rattle.flows.specs.declared.Flows.{Flows};
-ghost use Rattle.flows.specs.Flows.{flowsOf, flowsRoom};
+ghost use Rattle.flows.specs.Flows.{flows_of, flows_room};
 ghost use Rattle.tables.specs.Tables.{answer};
-ghost use Rattle.branch_checks.specs.BranchChecks.{checkedBranchesOf};
-ghost use Rattle.branch_tables.specs.BranchTables.{ReadyBranches, branchAnswer, ranBranches, solveBranchesOf};
+ghost use Rattle.branch_checks.specs.BranchChecks.{checked_branches_of};
+ghost use Rattle.branch_tables.specs.BranchTables.{ReadyBranches, branch_answer, ran_branches, solve_branches_of};
 
 use outcome::{Checked, Outcome};
 use starts::AcStart;
@@ -52,13 +52,13 @@ fn check_branches(
     places: usize,
     w: usize,
 ) -> Checked
-    ensures { let t = branchNetworkOf
-        (busesOf kind.now vm_set.now pd.now qd.now pg.now qg.now vm_case.now va_case.now)
-        (slacksOf slacks.now va_slacks.now)
-        (generatorsOf gen_bus.now qmin.now qmax.now)
-        (branchTableOf (branchesOf from.now to.now)
+    ensures { let t = branch_network_of
+        (buses_of kind.now vm_set.now pd.now qd.now pg.now qg.now vm_case.now va_case.now)
+        (slacks_of slacks.now va_slacks.now)
+        (generators_of gen_bus.now qmin.now qmax.now)
+        (branch_table_of (branches_of from.now to.now)
         (values_of g.now b.now g_fr.now b_fr.now g_to.now b_to.now tap.now shift.now sw.now)) in
-        result ≡ checkedBranchesOf t (lengthsOf vm va p q kinds) places w }
+        result ≡ checked_branches_of t (lengths_of vm va p q kinds) places w }
 {
     let counts = real::and(
         network::values_counted(from.len(), g, b, g_fr, b_fr, g_to, b_to, tap, shift, sw),
@@ -141,21 +141,21 @@ fn solve_built(
 ) -> Outcome
     ghost { BranchNetwork × Outs × Flows × List Float }
     requires* w_value { λ α. ⌜ (
-      branchNetworkOf
-          (busesOf kind.now vm_set.now pd.now qd.now pg.now qg.now vm_case.now va_case.now)
-          (slacksOf slacks.now va_slacks.now)
-          (generatorsOf gen_bus.now qmin.now qmax.now)
-          (branchTableOf (branchesOf from.now to.now)
+      branch_network_of
+          (buses_of kind.now vm_set.now pd.now qd.now pg.now qg.now vm_case.now va_case.now)
+          (slacks_of slacks.now va_slacks.now)
+          (generators_of gen_bus.now qmin.now qmax.now)
+          (branch_table_of (branches_of from.now to.now)
           (values_of g.now b.now g_fr.now b_fr.now g_to.now b_to.now tap.now shift.now sw.now)),
       outs vm.old va.old p.old q.old kinds.old,
-      flowsOf pf.old qf.old pt.old qt.old loss.old,
+      flows_of pf.old qf.old pt.old qt.old loss.old,
       w.old,
     ) ≡ α ⌝ }
-    requires* fact { λ (t, o, f, space). ⌜ ReadyBranches t (lengthsIn o) (flowsRoom f) (length space) ⌝ }
+    requires* fact { λ (t, o, f, space). ⌜ ReadyBranches t (lengths_in o) (flows_room f) (length space) ⌝ }
     ensures* { λ (t, o, f, space) r.
         let e = outs vm.new va.new p.new q.new kinds.new in
-        let g = flowsOf pf.new qf.new pt.new qt.new loss.new in
-        ⌜ branchAnswer (answer (paperOf r) e w.new) g ≡ ranBranches start t o f space ⌝ }
+        let g = flows_of pf.new qf.new pt.new qt.new loss.new in
+        ⌜ branch_answer (answer (paper_of r) e w.new) g ≡ ran_branches start t o f space ⌝ }
 {
     let y = ybus::build_ybus(
         kind.len(),
@@ -252,17 +252,17 @@ pub fn solve(
     loss: &mut [f64],
     w: &mut [f64],
 ) -> Outcome
-    ensures { let t = branchNetworkOf
-        (busesOf kind.now vm_set.now pd.now qd.now pg.now qg.now vm_case.now va_case.now)
-        (slacksOf slacks.now va_slacks.now)
-        (generatorsOf gen_bus.now qmin.now qmax.now)
-        (branchTableOf (branchesOf from.now to.now)
+    ensures { let t = branch_network_of
+        (buses_of kind.now vm_set.now pd.now qd.now pg.now qg.now vm_case.now va_case.now)
+        (slacks_of slacks.now va_slacks.now)
+        (generators_of gen_bus.now qmin.now qmax.now)
+        (branch_table_of (branches_of from.now to.now)
         (values_of g.entry.now b.now g_fr.now b_fr.now g_to.now b_to.now tap.now shift.now sw.now)) in
         let o = outs vm.old va.old p.old q.old kinds.old in
         let e = outs vm.new va.new p.new q.new kinds.new in
-        let f = flowsOf pf.old qf.old pt.old qt.old loss.old in
-        let g = flowsOf pf.new qf.new pt.new qt.new loss.new in
-        branchAnswer (answer (paperOf result) e w.new) g ≡ solveBranchesOf start t o f w.old }
+        let f = flows_of pf.old qf.old pt.old qt.old loss.old in
+        let g = flows_of pf.new qf.new pt.new qt.new loss.new in
+        branch_answer (answer (paper_of result) e w.new) g ≡ solve_branches_of start t o f w.old }
 {
     let places = flows::fewest(pf.len(), qf.len(), pt.len(), qt.len(), loss.len());
     let c = check_branches(

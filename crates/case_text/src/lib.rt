@@ -4,10 +4,10 @@
 ghost use Rattle.std.specs.Prelude.{◌≡◌, true, ◌+◌, ◌≤◌, length};
 ghost use Rattle.std.proofs.Math.Seq.{slice};
 ghost use Rattle.fields.specs.Cut.{has};
-ghost use Rattle.trailer.specs.Trailer.{trailerLength, trailerOf, Starts};
-ghost use Rattle.case_text.specs.Alphabet.{alphabet, alphabetOf, known_of};
-ghost use Rattle.case_text.specs.Text.{part_of, tripletPartOf, sectionRefusal, body_of, checkedText};
-ghost use Rattle.case_text.specs.Answer.{judgedOf};
+ghost use Rattle.trailer.specs.Trailer.{trailer_length, trailer_of, Starts};
+ghost use Rattle.case_text.specs.Alphabet.{alphabet, alphabet_of, known_of};
+ghost use Rattle.case_text.specs.Text.{part_of, triplet_part_of, section_refusal, body_of, checked_text};
+ghost use Rattle.case_text.specs.Answer.{judged_of};
 
 use network::Rows;
 use starts::AcStart;
@@ -44,7 +44,7 @@ fn known_first(b: u8) -> bool
 
 // Whether a byte is of an edition's alphabet.
 fn known(b: u8, x: Edition) -> bool
-    ensures { result ≡ has b (alphabetOf x) }
+    ensures { result ≡ has b (alphabet_of x) }
 {
     match x {
         Edition::First => known_first(b),
@@ -75,7 +75,7 @@ fn stranger(s: &[u8], e: usize, x: Edition) -> usize
 
 // A section of an edition.
 fn check_part(s: &[u8], t: usize, x: Edition, z: rows::Section) -> rows::Check
-    requires { (t + trailerLength x ≤ length s.now) × (trailerOf x s.now t ≡ true) × Starts x z }
+    requires { (t + trailer_length x ≤ length s.now) × (trailer_of x s.now t ≡ true) × Starts x z }
     ensures { result ≡ part_of z s.now t }
 {
     rows::check_section(s, trailer::start_of(s, t, z), trailer::end_of(s, t, z), z)
@@ -83,8 +83,8 @@ fn check_part(s: &[u8], t: usize, x: Edition, z: rows::Section) -> rows::Check
 
 // The section Y, of which the second edition has no lines.
 fn check_triplets(s: &[u8], t: usize, x: Edition) -> rows::Check
-    requires { (t + trailerLength x ≤ length s.now) × (trailerOf x s.now t ≡ true) }
-    ensures { result ≡ tripletPartOf x s.now t }
+    requires { (t + trailer_length x ≤ length s.now) × (trailer_of x s.now t ≡ true) }
+    ensures { result ≡ triplet_part_of x s.now t }
 {
     match x {
         Edition::First => check_part(s, t, Edition::First, rows::Section::Y),
@@ -94,7 +94,7 @@ fn check_triplets(s: &[u8], t: usize, x: Edition) -> rows::Check
 
 // Turns a section's refusal into the text's.
 fn refused(v: rows::Check) -> Reading
-    ensures { result ≡ sectionRefusal v }
+    ensures { result ≡ section_refusal v }
 {
     match v {
         rows::Check::Good(_) => Reading::Room,
@@ -106,7 +106,7 @@ fn refused(v: rows::Check) -> Reading
 
 // The sections in turn.
 fn body(s: &[u8], t: usize, x: Edition) -> Reading
-    requires { (t + trailerLength x ≤ length s.now) × (trailerOf x s.now t ≡ true) }
+    requires { (t + trailer_length x ≤ length s.now) × (trailer_of x s.now t ≡ true) }
     ensures { result ≡ body_of x s.now t }
 {
     let vb = check_part(s, t, x, rows::Section::B);
@@ -145,7 +145,7 @@ fn body(s: &[u8], t: usize, x: Edition) -> Reading
 
 // The whole text by an edition's rules: all that is checked before the columns are looked at.
 fn check_text(s: &[u8], x: Edition) -> Reading
-    ensures { result ≡ checkedText x s.now }
+    ensures { result ≡ checked_text x s.now }
 {
     let n = s.len();
     let w = trailer::width(x);
@@ -168,7 +168,7 @@ fn check_text(s: &[u8], x: Edition) -> Reading
 
 // The answer: the whole text, and then refusal 9.
 pub fn judge(s: &[u8], x: Edition, room: Rows) -> Reading
-    ensures { result ≡ judgedOf x s.now room }
+    ensures { result ≡ judged_of x s.now room }
 {
     let v = check_text(s, x);
     let Reading::Good(c) = v else {

@@ -5,11 +5,11 @@
 ghost use Rattle.std.specs.Prelude.{◌≡◌, ◌+◌, ◌≤◌, ◌<◌, [], length, get_or};
 ghost use Rattle.std.proofs.Math.Seq.{slice};
 ghost use Rattle.fields.specs.Cut.{pieces};
-ghost use Rattle.network.specs.Network.{Buses, Slacks, Generators, Branches, Triplets, busesOf, slacksOf, generatorsOf, branchesOf, tripletsOf};
-ghost use Rattle.network.specs.BranchTable.{BranchTable, values_of, branchTableOf, RoomBranchTable};
+ghost use Rattle.network.specs.Network.{Buses, Slacks, Generators, Branches, Triplets, buses_of, slacks_of, generators_of, branches_of, triplets_of};
+ghost use Rattle.network.specs.BranchTable.{BranchTable, values_of, branch_table_of, RoomBranchTable};
 ghost use Rattle.network.specs.Network.{RoomBuses, RoomSlacks, RoomGenerators, RoomBranches, RoomTriplets};
-ghost use Rattle.columns.specs.Columns.{rowCount, filled, realField, numberField, kindField};
-ghost use Rattle.columns.specs.Columns.{filledBuses, filledSlacks, filledGenerators, filledBranches, filledTriplets, filledBranchTable};
+ghost use Rattle.columns.specs.Columns.{row_count, filled, real_field, number_field, kind_field};
+ghost use Rattle.columns.specs.Columns.{filled_buses, filled_slacks, filled_generators, filled_branches, filled_triplets, filled_branch_table};
 
 // A part of the text.
 #[derive(Drop)]
@@ -40,7 +40,7 @@ fn piece(s: &[u8], a: usize, e: usize, n: usize) -> Part
 
 fn real_at(s: &[u8], a: usize, e: usize, j: usize) -> f64
     requires { (a ≤ e) × (e ≤ length s.now) × (j < 16) }
-    ensures { result ≡ realField j (slice a e s.now) }
+    ensures { result ≡ real_field j (slice a e s.now) }
 {
     let c = piece(s, a, e, j + 1);
     let from = c.from;
@@ -50,7 +50,7 @@ fn real_at(s: &[u8], a: usize, e: usize, j: usize) -> f64
 
 fn number_at(s: &[u8], a: usize, e: usize, j: usize) -> usize
     requires { (a ≤ e) × (e ≤ length s.now) × (j < 16) }
-    ensures { result ≡ numberField j (slice a e s.now) }
+    ensures { result ≡ number_field j (slice a e s.now) }
 {
     let c = piece(s, a, e, j + 1);
     let from = c.from;
@@ -60,7 +60,7 @@ fn number_at(s: &[u8], a: usize, e: usize, j: usize) -> usize
 
 fn kind_at(s: &[u8], a: usize, e: usize, j: usize) -> u8
     requires { (a ≤ e) × (e ≤ length s.now) × (j < 16) }
-    ensures { result ≡ kindField j (slice a e s.now) }
+    ensures { result ≡ kind_field j (slice a e s.now) }
 {
     let c = piece(s, a, e, j + 1);
     let from = c.from;
@@ -72,8 +72,8 @@ fn kind_at(s: &[u8], a: usize, e: usize, j: usize) -> u8
 
 fn fill_reals(s: &[u8], a: usize, e: usize, j: usize, out: &mut [f64])
     requires a_le_e { (a ≤ e) × (e ≤ length s.now) }
-    requires j_bound { (j < 16) × (rowCount (slice a e s.now) ≤ length out.old) }
-    ensures { out.new ≡ filled (realField j) (slice a e s.now) out.old }
+    requires j_bound { (j < 16) × (row_count (slice a e s.now) ≤ length out.old) }
+    ensures { out.new ≡ filled (real_field j) (slice a e s.now) out.old }
 {
     let mut i = a;
     let mut r: usize = 0;
@@ -90,8 +90,8 @@ fn fill_reals(s: &[u8], a: usize, e: usize, j: usize, out: &mut [f64])
 
 fn fill_numbers(s: &[u8], a: usize, e: usize, j: usize, out: &mut [usize])
     requires a_le_e { (a ≤ e) × (e ≤ length s.now) }
-    requires j_bound { (j < 16) × (rowCount (slice a e s.now) ≤ length out.old) }
-    ensures { out.new ≡ filled (numberField j) (slice a e s.now) out.old }
+    requires j_bound { (j < 16) × (row_count (slice a e s.now) ≤ length out.old) }
+    ensures { out.new ≡ filled (number_field j) (slice a e s.now) out.old }
 {
     let mut i = a;
     let mut r: usize = 0;
@@ -108,8 +108,8 @@ fn fill_numbers(s: &[u8], a: usize, e: usize, j: usize, out: &mut [usize])
 
 fn fill_kinds(s: &[u8], a: usize, e: usize, j: usize, out: &mut [u8])
     requires a_le_e { (a ≤ e) × (e ≤ length s.now) }
-    requires j_bound { (j < 16) × (rowCount (slice a e s.now) ≤ length out.old) }
-    ensures { out.new ≡ filled (kindField j) (slice a e s.now) out.old }
+    requires j_bound { (j < 16) × (row_count (slice a e s.now) ≤ length out.old) }
+    ensures { out.new ≡ filled (kind_field j) (slice a e s.now) out.old }
 {
     let mut i = a;
     let mut r: usize = 0;
@@ -135,11 +135,11 @@ fn fill_buses_front(
     qd: &mut [f64],
 )
     requires a_le_e { (a ≤ e) × (e ≤ length s.now) }
-    requires fact { let r = rowCount (slice a e s.now) in (r ≤ length kind.old) × (r ≤ length vm_set.old) × (r ≤ length pd.old) × (r ≤ length qd.old) }
-    ensures { (kind.new ≡ filled (kindField 0) (slice a e s.now) kind.old)
-        × (vm_set.new ≡ filled (realField 1) (slice a e s.now) vm_set.old)
-        × (pd.new ≡ filled (realField 2) (slice a e s.now) pd.old)
-        × (qd.new ≡ filled (realField 3) (slice a e s.now) qd.old) }
+    requires fact { let r = row_count (slice a e s.now) in (r ≤ length kind.old) × (r ≤ length vm_set.old) × (r ≤ length pd.old) × (r ≤ length qd.old) }
+    ensures { (kind.new ≡ filled (kind_field 0) (slice a e s.now) kind.old)
+        × (vm_set.new ≡ filled (real_field 1) (slice a e s.now) vm_set.old)
+        × (pd.new ≡ filled (real_field 2) (slice a e s.now) pd.old)
+        × (qd.new ≡ filled (real_field 3) (slice a e s.now) qd.old) }
 {
     fill_kinds(s, a, e, 0, kind);
     fill_reals(s, a, e, 1, vm_set);
@@ -159,11 +159,11 @@ fn fill_four(
     w: &mut [f64],
 )
     requires a_le_e { (a ≤ e) × (e ≤ length s.now) × (j + 3 < 16) }
-    requires fact { let r = rowCount (slice a e s.now) in (r ≤ length x.old) × (r ≤ length y.old) × (r ≤ length z.old) × (r ≤ length w.old) }
-    ensures { (x.new ≡ filled (realField j) (slice a e s.now) x.old)
-        × (y.new ≡ filled (realField (j + 1)) (slice a e s.now) y.old)
-        × (z.new ≡ filled (realField (j + 2)) (slice a e s.now) z.old)
-        × (w.new ≡ filled (realField (j + 3)) (slice a e s.now) w.old) }
+    requires fact { let r = row_count (slice a e s.now) in (r ≤ length x.old) × (r ≤ length y.old) × (r ≤ length z.old) × (r ≤ length w.old) }
+    ensures { (x.new ≡ filled (real_field j) (slice a e s.now) x.old)
+        × (y.new ≡ filled (real_field (j + 1)) (slice a e s.now) y.old)
+        × (z.new ≡ filled (real_field (j + 2)) (slice a e s.now) z.old)
+        × (w.new ≡ filled (real_field (j + 3)) (slice a e s.now) w.old) }
 {
     fill_reals(s, a, e, j, x);
     fill_reals(s, a, e, j + 1, y);
@@ -186,10 +186,10 @@ pub fn fill_buses(
     va_case: &mut [f64],
 )
     ghost t: { Buses }
-    requires va_case_value { busesOf kind.old vm_set.old pd.old qd.old pg.old qg.old vm_case.old va_case.old ≡ t }
-    requires a_le_e { (a ≤ e) × (e ≤ length s.now) × RoomBuses (rowCount (slice a e s.now)) t }
-    ensures { busesOf kind.new vm_set.new pd.new qd.new pg.new qg.new
-        vm_case.new va_case.new ≡ filledBuses (slice a e s.now) t }
+    requires va_case_value { buses_of kind.old vm_set.old pd.old qd.old pg.old qg.old vm_case.old va_case.old ≡ t }
+    requires a_le_e { (a ≤ e) × (e ≤ length s.now) × RoomBuses (row_count (slice a e s.now)) t }
+    ensures { buses_of kind.new vm_set.new pd.new qd.new pg.new qg.new
+        vm_case.new va_case.new ≡ filled_buses (slice a e s.now) t }
 {
     fill_buses_front(s, a, e, kind, vm_set, pd, qd);
     fill_four(s, a, e, 4, pg, qg, vm_case, va_case);
@@ -198,9 +198,9 @@ pub fn fill_buses(
 // `R bus angle`.
 fn fill_slacks(s: &[u8], a: usize, e: usize, slacks: &mut [usize], va_slacks: &mut [f64])
     requires a_le_e { (a ≤ e) × (e ≤ length s.now) }
-    requires s_in_bounds { (rowCount (slice a e s.now) ≤ length slacks.old) × (rowCount (slice a e s.now) ≤ length va_slacks.old) }
-    ensures { (slacks.new ≡ filled (numberField 0) (slice a e s.now) slacks.old)
-        × (va_slacks.new ≡ filled (realField 1) (slice a e s.now) va_slacks.old) }
+    requires s_in_bounds { (row_count (slice a e s.now) ≤ length slacks.old) × (row_count (slice a e s.now) ≤ length va_slacks.old) }
+    ensures { (slacks.new ≡ filled (number_field 0) (slice a e s.now) slacks.old)
+        × (va_slacks.new ≡ filled (real_field 1) (slice a e s.now) va_slacks.old) }
 {
     fill_numbers(s, a, e, 0, slacks);
     fill_reals(s, a, e, 1, va_slacks);
@@ -216,10 +216,10 @@ fn fill_generators(
     qmax: &mut [f64],
 )
     requires a_le_e { (a ≤ e) × (e ≤ length s.now) }
-    requires fact { let r = rowCount (slice a e s.now) in (r ≤ length gen_bus.old) × (r ≤ length qmin.old) × (r ≤ length qmax.old) }
-    ensures { (gen_bus.new ≡ filled (numberField 0) (slice a e s.now) gen_bus.old)
-        × (qmin.new ≡ filled (realField 1) (slice a e s.now) qmin.old)
-        × (qmax.new ≡ filled (realField 2) (slice a e s.now) qmax.old) }
+    requires fact { let r = row_count (slice a e s.now) in (r ≤ length gen_bus.old) × (r ≤ length qmin.old) × (r ≤ length qmax.old) }
+    ensures { (gen_bus.new ≡ filled (number_field 0) (slice a e s.now) gen_bus.old)
+        × (qmin.new ≡ filled (real_field 1) (slice a e s.now) qmin.old)
+        × (qmax.new ≡ filled (real_field 2) (slice a e s.now) qmax.old) }
 {
     fill_numbers(s, a, e, 0, gen_bus);
     fill_reals(s, a, e, 1, qmin);
@@ -229,9 +229,9 @@ fn fill_generators(
 // `L from to`.
 fn fill_branches(s: &[u8], a: usize, e: usize, br_from: &mut [usize], br_to: &mut [usize])
     requires a_le_e { (a ≤ e) × (e ≤ length s.now) }
-    requires s_in_bounds { (rowCount (slice a e s.now) ≤ length br_from.old) × (rowCount (slice a e s.now) ≤ length br_to.old) }
-    ensures { (br_from.new ≡ filled (numberField 0) (slice a e s.now) br_from.old)
-        × (br_to.new ≡ filled (numberField 1) (slice a e s.now) br_to.old) }
+    requires s_in_bounds { (row_count (slice a e s.now) ≤ length br_from.old) × (row_count (slice a e s.now) ≤ length br_to.old) }
+    ensures { (br_from.new ≡ filled (number_field 0) (slice a e s.now) br_from.old)
+        × (br_to.new ≡ filled (number_field 1) (slice a e s.now) br_to.old) }
 {
     fill_numbers(s, a, e, 0, br_from);
     fill_numbers(s, a, e, 1, br_to);
@@ -248,11 +248,11 @@ fn fill_triplets(
     y_im: &mut [f64],
 )
     requires a_le_e { (a ≤ e) × (e ≤ length s.now) }
-    requires fact { let r = rowCount (slice a e s.now) in (r ≤ length y_row.old) × (r ≤ length y_col.old) × (r ≤ length y_re.old) × (r ≤ length y_im.old) }
-    ensures { (y_row.new ≡ filled (numberField 0) (slice a e s.now) y_row.old)
-        × (y_col.new ≡ filled (numberField 1) (slice a e s.now) y_col.old)
-        × (y_re.new ≡ filled (realField 2) (slice a e s.now) y_re.old)
-        × (y_im.new ≡ filled (realField 3) (slice a e s.now) y_im.old) }
+    requires fact { let r = row_count (slice a e s.now) in (r ≤ length y_row.old) × (r ≤ length y_col.old) × (r ≤ length y_re.old) × (r ≤ length y_im.old) }
+    ensures { (y_row.new ≡ filled (number_field 0) (slice a e s.now) y_row.old)
+        × (y_col.new ≡ filled (number_field 1) (slice a e s.now) y_col.old)
+        × (y_re.new ≡ filled (real_field 2) (slice a e s.now) y_re.old)
+        × (y_im.new ≡ filled (real_field 3) (slice a e s.now) y_im.old) }
 {
     fill_numbers(s, a, e, 0, y_row);
     fill_numbers(s, a, e, 1, y_col);
@@ -273,10 +273,10 @@ pub fn fill_sources(
     qmax: &mut [f64],
 )
     ghost { Slacks × Generators }
-    requires* qmax_value { λ t. ⌜ (slacksOf slacks.old va_slacks.old, generatorsOf gen_bus.old qmin.old qmax.old) ≡ t ⌝ }
-    requires* fact { λ (u, v). ⌜ (r ≤ g) × (g ≤ l) × (l ≤ length s.now) × RoomSlacks (rowCount (slice r g s.now)) u × RoomGenerators (rowCount (slice g l s.now)) v ⌝ }
-    ensures* { λ (u, v) _. ⌜ (slacksOf slacks.new va_slacks.new ≡ filledSlacks (slice r g s.now) u)
-        × (generatorsOf gen_bus.new qmin.new qmax.new ≡ filledGenerators (slice g l s.now) v) ⌝ }
+    requires* qmax_value { λ t. ⌜ (slacks_of slacks.old va_slacks.old, generators_of gen_bus.old qmin.old qmax.old) ≡ t ⌝ }
+    requires* fact { λ (u, v). ⌜ (r ≤ g) × (g ≤ l) × (l ≤ length s.now) × RoomSlacks (row_count (slice r g s.now)) u × RoomGenerators (row_count (slice g l s.now)) v ⌝ }
+    ensures* { λ (u, v) _. ⌜ (slacks_of slacks.new va_slacks.new ≡ filled_slacks (slice r g s.now) u)
+        × (generators_of gen_bus.new qmin.new qmax.new ≡ filled_generators (slice g l s.now) v) ⌝ }
 {
     fill_slacks(s, r, g, slacks, va_slacks);
     fill_generators(s, g, l, gen_bus, qmin, qmax);
@@ -296,10 +296,10 @@ pub fn fill_lines(
     y_im: &mut [f64],
 )
     ghost { Branches × Triplets }
-    requires* y_im_value { λ α. ⌜ (branchesOf br_from.old br_to.old, tripletsOf y_row.old y_col.old y_re.old y_im.old) ≡ α ⌝ }
-    requires* fact { λ (u, v). ⌜ (l ≤ y) × (y ≤ t) × (t ≤ length s.now) × RoomBranches (rowCount (slice l y s.now)) u × RoomTriplets (rowCount (slice y t s.now)) v ⌝ }
-    ensures* { λ (u, v) _. ⌜ (branchesOf br_from.new br_to.new ≡ filledBranches (slice l y s.now) u)
-        × (tripletsOf y_row.new y_col.new y_re.new y_im.new ≡ filledTriplets (slice y t s.now) v) ⌝ }
+    requires* y_im_value { λ α. ⌜ (branches_of br_from.old br_to.old, triplets_of y_row.old y_col.old y_re.old y_im.old) ≡ α ⌝ }
+    requires* fact { λ (u, v). ⌜ (l ≤ y) × (y ≤ t) × (t ≤ length s.now) × RoomBranches (row_count (slice l y s.now)) u × RoomTriplets (row_count (slice y t s.now)) v ⌝ }
+    ensures* { λ (u, v) _. ⌜ (branches_of br_from.new br_to.new ≡ filled_branches (slice l y s.now) u)
+        × (triplets_of y_row.new y_col.new y_re.new y_im.new ≡ filled_triplets (slice y t s.now) v) ⌝ }
 {
     fill_branches(s, l, y, br_from, br_to);
     fill_triplets(s, y, t, y_row, y_col, y_re, y_im);
@@ -323,12 +323,12 @@ pub fn fill_branch_table(
     sw: &mut [f64],
 )
     ghost t: { BranchTable }
-    requires sw_value { branchTableOf (branchesOf from.old to.old)
+    requires sw_value { branch_table_of (branches_of from.old to.old)
         (values_of g.old b.old g_fr.old b_fr.old g_to.old b_to.old tap.old shift.old sw.old) ≡ t }
-    requires a_le_e { (a ≤ e) × (e ≤ length s.now) × RoomBranchTable (rowCount (slice a e s.now)) t }
-    ensures { branchTableOf (branchesOf from.new to.new)
+    requires a_le_e { (a ≤ e) × (e ≤ length s.now) × RoomBranchTable (row_count (slice a e s.now)) t }
+    ensures { branch_table_of (branches_of from.new to.new)
         (values_of g.new b.new g_fr.new b_fr.new g_to.new b_to.new tap.new
-        shift.new sw.new) ≡ filledBranchTable (slice a e s.now) t }
+        shift.new sw.new) ≡ filled_branch_table (slice a e s.now) t }
 {
     fill_branches(s, a, e, from, to);
     fill_four(s, a, e, 2, g, b, g_fr, b_fr);

@@ -2,9 +2,9 @@
 #![tactic(auto)]
 
 ghost use Rattle.std.specs.Prelude.{◌≡◌, min};
-ghost use Rattle.network.specs.Network.{busesOf, slacksOf, generatorsOf, branchesOf, tripletsOf, networkOf};
-ghost use Rattle.network.specs.BranchTable.{values_of, branchTableOf, branchNetworkOf};
-ghost use Rattle.case_text.specs.Answer.{readResult, paperOf, read_first, readSecond};
+ghost use Rattle.network.specs.Network.{buses_of, slacks_of, generators_of, branches_of, triplets_of, network_of};
+ghost use Rattle.network.specs.BranchTable.{values_of, branch_table_of, branch_network_of};
+ghost use Rattle.case_text.specs.Answer.{read_result, paper_of, read_first, read_second};
 
 use case_text::Reading;
 use network::Rows;
@@ -45,19 +45,19 @@ pub fn read_triplets(
     y_re: &mut [f64],
     y_im: &mut [f64],
 ) -> Reading
-    ensures { let old = networkOf
-        (busesOf kind.old vm_set.old pd.old qd.old pg.old qg.old vm_case.old va_case.old)
-        (slacksOf slacks.old va_slacks.old)
-        (generatorsOf gen_bus.old qmin.old qmax.old)
-        (branchesOf br_from.old br_to.old)
-        (tripletsOf y_row.old y_col.old y_re.old y_im.old) in
-        let new = networkOf
-        (busesOf kind.new vm_set.new pd.new qd.new pg.new qg.new vm_case.new va_case.new)
-        (slacksOf slacks.new va_slacks.new)
-        (generatorsOf gen_bus.new qmin.new qmax.new)
-        (branchesOf br_from.new br_to.new)
-        (tripletsOf y_row.new y_col.new y_re.new y_im.new) in
-        readResult (paperOf result) new ≡ read_first text.now old }
+    ensures { let old = network_of
+        (buses_of kind.old vm_set.old pd.old qd.old pg.old qg.old vm_case.old va_case.old)
+        (slacks_of slacks.old va_slacks.old)
+        (generators_of gen_bus.old qmin.old qmax.old)
+        (branches_of br_from.old br_to.old)
+        (triplets_of y_row.old y_col.old y_re.old y_im.old) in
+        let new = network_of
+        (buses_of kind.new vm_set.new pd.new qd.new pg.new qg.new vm_case.new va_case.new)
+        (slacks_of slacks.new va_slacks.new)
+        (generators_of gen_bus.new qmin.new qmax.new)
+        (branches_of br_from.new br_to.new)
+        (triplets_of y_row.new y_col.new y_re.new y_im.new) in
+        read_result (paper_of result) new ≡ read_first text.now old }
 {
     let room = Rows {
         buses: least8(
@@ -119,19 +119,19 @@ pub fn read_branches(
     shift: &mut [f64],
     sw: &mut [f64],
 ) -> Reading
-    ensures { let old = branchNetworkOf
-        (busesOf kind.old vm_set.old pd.old qd.old pg.old qg.old vm_case.old va_case.old)
-        (slacksOf slacks.old va_slacks.old)
-        (generatorsOf gen_bus.old qmin.old qmax.old)
-        (branchTableOf (branchesOf from.old to.old)
+    ensures { let old = branch_network_of
+        (buses_of kind.old vm_set.old pd.old qd.old pg.old qg.old vm_case.old va_case.old)
+        (slacks_of slacks.old va_slacks.old)
+        (generators_of gen_bus.old qmin.old qmax.old)
+        (branch_table_of (branches_of from.old to.old)
         (values_of g.old b.old g_fr.old b_fr.old g_to.old b_to.old tap.old shift.old sw.old)) in
-        let new = branchNetworkOf
-        (busesOf kind.new vm_set.new pd.new qd.new pg.new qg.new vm_case.new va_case.new)
-        (slacksOf slacks.new va_slacks.new)
-        (generatorsOf gen_bus.new qmin.new qmax.new)
-        (branchTableOf (branchesOf from.new to.new)
+        let new = branch_network_of
+        (buses_of kind.new vm_set.new pd.new qd.new pg.new qg.new vm_case.new va_case.new)
+        (slacks_of slacks.new va_slacks.new)
+        (generators_of gen_bus.new qmin.new qmax.new)
+        (branch_table_of (branches_of from.new to.new)
         (values_of g.new b.new g_fr.new b_fr.new g_to.new b_to.new tap.new shift.new sw.new)) in
-        readResult (paperOf result) new ≡ readSecond text.now old }
+        read_result (paper_of result) new ≡ read_second text.now old }
 {
     let values = least8(
         g.len(),

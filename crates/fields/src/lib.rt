@@ -7,8 +7,8 @@ ghost use Rattle.std.specs.Float.Ieee.{div};
 ghost use Rattle.std.proofs.Math.Seq.{slice};
 ghost use Rattle.real.specs.Literals.{double};
 ghost use Rattle.fields.specs.Cut.{Found, only};
-ghost use Rattle.fields.specs.Digits.{limitedOf, busOf, is_number, numberIn};
-ghost use Rattle.fields.specs.Real.{amountOf, unsignedOf, negatedOf, realOf, orNanOf, isReal, realIn};
+ghost use Rattle.fields.specs.Digits.{limited_of, bus_of, is_number, number_in};
+ghost use Rattle.fields.specs.Real.{amount_of, unsigned_of, negated_of, real_of, or_nan_of, is_real, real_in};
 
 // A field read as a real.
 #[derive(Drop)]
@@ -57,7 +57,7 @@ pub fn is_byte(s: &[u8], a: usize, e: usize, x: u8) -> bool
 pub fn whole(s: &[u8], a: usize, e: usize, from: usize) -> Digits
     requires a_le_e { (a ≤ e) × (e ≤ length s.now) }
     requires from_bound { from < 10 ^ 15 }
-    ensures { result ≡ limitedOf from (slice a e s.now) }
+    ensures { result ≡ limited_of from (slice a e s.now) }
 {
     let mut m = from;
     let mut i = a;
@@ -80,7 +80,7 @@ pub fn whole(s: &[u8], a: usize, e: usize, from: usize) -> Digits
 
 pub fn read_bus(s: &[u8], a: usize, e: usize) -> Digits
     requires { (a ≤ e) × (e ≤ length s.now) }
-    ensures { result ≡ busOf (slice a e s.now) }
+    ensures { result ≡ bus_of (slice a e s.now) }
 {
     if a == e {
         return Digits::Other;
@@ -123,7 +123,7 @@ fn scaled(m: usize, k: usize) -> f64
 fn amount(s: &[u8], a: usize, b: usize, c: usize, e: usize) -> Real
     requires a_le_b { (a ≤ b) × (b ≤ length s.now) }
     requires c_le_e { (c ≤ e) × (e ≤ length s.now) }
-    ensures { result ≡ amountOf (slice a b s.now) (slice c e s.now) }
+    ensures { result ≡ amount_of (slice a b s.now) (slice c e s.now) }
 {
     if a == b {
         return Real::Wrong;
@@ -144,7 +144,7 @@ fn amount(s: &[u8], a: usize, b: usize, c: usize, e: usize) -> Real
 // A real with no minus.
 fn unsigned(s: &[u8], a: usize, e: usize) -> Real
     requires { (a ≤ e) × (e ≤ length s.now) }
-    ensures { result ≡ unsignedOf (slice a e s.now) }
+    ensures { result ≡ unsigned_of (slice a e s.now) }
 {
     let p = find(s, a, e, b'.');
     if p < e {
@@ -157,7 +157,7 @@ fn unsigned(s: &[u8], a: usize, e: usize) -> Real
 }
 
 fn negated(r: Real) -> Real
-    ensures { result ≡ negatedOf r }
+    ensures { result ≡ negated_of r }
 {
     match r {
         Real::Value(x) => Real::Value(-x),
@@ -167,7 +167,7 @@ fn negated(r: Real) -> Real
 
 pub fn read_real(s: &[u8], a: usize, e: usize) -> Real
     requires { (a ≤ e) × (e ≤ length s.now) }
-    ensures { result ≡ realOf (slice a e s.now) }
+    ensures { result ≡ real_of (slice a e s.now) }
 {
     if a == e {
         return Real::Wrong;
@@ -181,7 +181,7 @@ pub fn read_real(s: &[u8], a: usize, e: usize) -> Real
 // A real, or `?` for NaN.
 pub fn real_or_nan(s: &[u8], a: usize, e: usize) -> Real
     requires { (a ≤ e) × (e ≤ length s.now) }
-    ensures { result ≡ orNanOf (slice a e s.now) }
+    ensures { result ≡ or_nan_of (slice a e s.now) }
 {
     if is_byte(s, a, e, b'?') {
         return Real::Value(0.0 / 0.0);
@@ -190,7 +190,7 @@ pub fn real_or_nan(s: &[u8], a: usize, e: usize) -> Real
 }
 
 pub fn is_real(r: Real) -> bool
-    ensures { result ≡ isReal r }
+    ensures { result ≡ is_real r }
 {
     match r {
         Real::Value(_) => true,
@@ -209,7 +209,7 @@ pub fn is_number(r: Digits) -> bool
 
 // The value of a field that was found good.
 pub fn real_in(r: Real) -> f64
-    ensures { result ≡ realIn r }
+    ensures { result ≡ real_in r }
 {
     match r {
         Real::Value(x) => x,
@@ -219,7 +219,7 @@ pub fn real_in(r: Real) -> f64
 
 // The number of a field that was found good.
 pub fn number_in(r: Digits) -> usize
-    ensures { result ≡ numberIn r }
+    ensures { result ≡ number_in r }
 {
     match r {
         Digits::Number(n) => n,

@@ -2,11 +2,11 @@
 #![tactic(auto)]
 
 ghost use Rattle.std.specs.Prelude.{◌≡◌, List, Float};
-ghost use Rattle.network.specs.Network.{Network, busesOf, slacksOf, generatorsOf, branchesOf, tripletsOf, networkOf, RoomFor, firstRows};
-ghost use Rattle.outcome.specs.Outcome.{Outs, outs, paperOf};
-ghost use Rattle.tables.specs.Tables.{answer, solveOf};
-ghost use Rattle.flows.specs.Flows.{blankFlows};
-ghost use Rattle.answered.specs.TextAnswer.{answeredWith, Few, firstAnswer};
+ghost use Rattle.network.specs.Network.{Network, buses_of, slacks_of, generators_of, branches_of, triplets_of, network_of, RoomFor, first_rows};
+ghost use Rattle.outcome.specs.Outcome.{Outs, outs, paper_of};
+ghost use Rattle.tables.specs.Tables.{answer, solve_of};
+ghost use Rattle.flows.specs.Flows.{blank_flows};
+ghost use Rattle.answered.specs.TextAnswer.{answered_with, Few, first_answer};
 
 use answered::Answered;
 use case_text::Reading;
@@ -46,18 +46,18 @@ fn solve_rows(
 ) -> Outcome
     ghost { Network × Outs × List Float }
     requires* w_value { λ α. ⌜ (
-      networkOf
-          (busesOf kind.now vm_set.now pd.now qd.now pg.now qg.now vm_case.now va_case.now)
-          (slacksOf slacks.now va_slacks.now)
-          (generatorsOf gen_bus.now qmin.now qmax.now)
-          (branchesOf br_from.now br_to.now)
-          (tripletsOf y_row.now y_col.now y_re.now y_im.now),
+      network_of
+          (buses_of kind.now vm_set.now pd.now qd.now pg.now qg.now vm_case.now va_case.now)
+          (slacks_of slacks.now va_slacks.now)
+          (generators_of gen_bus.now qmin.now qmax.now)
+          (branches_of br_from.now br_to.now)
+          (triplets_of y_row.now y_col.now y_re.now y_im.now),
       outs vm.old va.old p.old q.old kinds.old,
       w.old,
     ) ≡ α ⌝ }
     requires* fact { λ (t, o, space). ⌜ RoomFor rows t ⌝ }
-    ensures* { λ (t, o, space) r. ⌜ answer (paperOf r) (outs vm.new va.new p.new q.new kinds.new)
-        w.new ≡ solveOf start (firstRows rows t) o space ⌝ }
+    ensures* { λ (t, o, space) r. ⌜ answer (paper_of r) (outs vm.new va.new p.new q.new kinds.new)
+        w.new ≡ solve_of start (first_rows rows t) o space ⌝ }
 {
     let b = rows.buses;
     let r = rows.slacks;
@@ -106,7 +106,7 @@ pub fn answer_first(
 ) -> Answered
     ensures { let o = outs vm.old va.old p.old q.old kinds.old in
         let e = outs vm.new va.new p.new q.new kinds.new in
-        (answeredWith result e blankFlows w.new ≡ firstAnswer text.now o w.old) × Few result }
+        (answered_with result e blank_flows w.new ≡ first_answer text.now o w.old) × Few result }
 {
     let mut kind = [0u8; 32];
     let mut vm_set = [0.0; 32];

@@ -3,11 +3,11 @@
 
 ghost use Rattle.std.specs.Prelude.{◌≡◌, length, ◌<◌};
 ghost use Rattle.network.specs.Below.{Below};
-ghost use Rattle.network.specs.Network.{branchesOf};
+ghost use Rattle.network.specs.Network.{branches_of};
 ghost use Rattle.network.specs.Checks.{SizedBranches};
-ghost use Rattle.injections.specs.Injections.{voltageAt};
-ghost use Rattle.ybus.specs.Ybus.{admittanceAt};
-ghost use Rattle.flows.specs.Flows.{fewestOf, flow_of, flowsOf, blankFlows, OnePerBranch, withFlowsBy};
+ghost use Rattle.injections.specs.Injections.{voltage_at};
+ghost use Rattle.ybus.specs.Ybus.{admittance_at};
+ghost use Rattle.flows.specs.Flows.{fewest_of, flow_of, flows_of, blank_flows, OnePerBranch, with_flows_by};
 
 use complex::Complex;
 use ybus::Admittance;
@@ -34,7 +34,7 @@ pub struct Flows {
 
 // Zeros.
 pub fn blank() -> Flows
-    ensures { result ≡ blankFlows }
+    ensures { result ≡ blank_flows }
 {
     let zeros = [0.0; 64];
     Flows {
@@ -70,7 +70,7 @@ fn branch_flow(y: Admittance, from: Complex, to: Complex) -> Flow
 // The voltage of bus b.
 fn voltage(b: usize, vm: &[f64], va: &[f64]) -> Complex
     requires { (b < length vm.now) × (b < length va.now) }
-    ensures { result ≡ voltageAt vm.now va.now b }
+    ensures { result ≡ voltage_at vm.now va.now b }
 {
     Complex::polar(vm[b], va[b])
 }
@@ -90,11 +90,11 @@ pub fn write_flows(
     qt: &mut [f64],
     loss: &mut [f64],
 )
-    requires sized_branches { SizedBranches (branchesOf from.now to.now) × OnePerBranch (length from.now) (flowsOf pf.old qf.old pt.old qt.old loss.old) }
+    requires sized_branches { SizedBranches (branches_of from.now to.now) × OnePerBranch (length from.now) (flows_of pf.old qf.old pt.old qt.old loss.old) }
     requires below { Below (length vm.now) from.now × Below (length va.now) from.now × Below (length vm.now) to.now × Below (length va.now) to.now }
-    ensures { flowsOf pf.new qf.new pt.new qt.new loss.new
-        ≡ withFlowsBy (branchesOf from.now to.now) (admittanceAt y) vm.now va.now
-        (flowsOf pf.old qf.old pt.old qt.old loss.old) }
+    ensures { flows_of pf.new qf.new pt.new qt.new loss.new
+        ≡ with_flows_by (branches_of from.now to.now) (admittance_at y) vm.now va.now
+        (flows_of pf.old qf.old pt.old qt.old loss.old) }
 {
     for e in 0..from.len() {
         let v_from = voltage(from[e], vm, va);
@@ -112,7 +112,7 @@ pub fn write_flows(
 
 // The fewest places that one of the five columns has.
 pub fn fewest(pf: usize, qf: usize, pt: usize, qt: usize, loss: usize) -> usize
-    ensures { result ≡ fewestOf pf qf pt qt loss }
+    ensures { result ≡ fewest_of pf qf pt qt loss }
 {
     real::least(real::least(real::least(pf, qf), real::least(pt, qt)), loss)
 }

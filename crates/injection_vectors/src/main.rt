@@ -4,11 +4,11 @@
 
 ghost use Rattle.std.specs.Prelude.{◌≡◌, ◌+◌, ◌*◌, ◌≤◌, ◌<◌, length};
 ghost use Rattle.network.specs.Below.{Below};
-ghost use Rattle.network.specs.Network.{tripletsOf};
+ghost use Rattle.network.specs.Network.{triplets_of};
 ghost use Rattle.injections.specs.Injections.{GoodTriplets};
 ghost use Rattle.vectors.specs.Words.{word_of, Tells, Found};
-ghost use Rattle.injection_vectors.specs.Told.{wordsTold, doublesTold, tableTold, columnsTold, columnTold, layoutTold, injectionsTold};
-ghost use Rattle.injection_vectors.specs.Told.{tripletsTold, placeTold, Holds, Fits, injectionsAt, jacobianAt, Entries, Agrees};
+ghost use Rattle.injection_vectors.specs.Told.{words_told, doubles_told, table_told, columns_told, column_told, layout_told, injections_told};
+ghost use Rattle.injection_vectors.specs.Told.{triplets_told, place_told, Holds, Fits, injections_at, jacobian_at, Entries, Agrees};
 
 use injections::{Column, Injections};
 use layout::AcPfLayout;
@@ -19,7 +19,7 @@ use real::First;
 
 fn doubles_into(out: &mut [f64], s: &[u8], from: usize)
     requires { from + length out.old * 8 ≤ length s.now }
-    ensures { out.new ≡ doublesTold s.now from (length out.old) }
+    ensures { out.new ≡ doubles_told s.now from (length out.old) }
 {
     for k in 0..out.len() {
         out[k] = vectors::double_at(s, from + k * 8);
@@ -28,7 +28,7 @@ fn doubles_into(out: &mut [f64], s: &[u8], from: usize)
 
 fn numbers_into(out: &mut [usize], s: &[u8], from: usize)
     requires { from + length out.old * 8 ≤ length s.now }
-    ensures { out.new ≡ wordsTold s.now from (length out.old) }
+    ensures { out.new ≡ words_told s.now from (length out.old) }
 {
     for k in 0..out.len() {
         out[k] = vectors::word(s, from + k * 8) as usize;
@@ -37,7 +37,7 @@ fn numbers_into(out: &mut [usize], s: &[u8], from: usize)
 
 fn doubles(s: &[u8], from: usize, n: usize) -> [f64; 32]
     requires { (n ≤ 32) × (from + n * 8 ≤ length s.now) }
-    ensures { result ≡ tableTold s.now from n }
+    ensures { result ≡ table_told s.now from n }
 {
     let mut out = [0.0; 32];
     for b in 0..n {
@@ -48,7 +48,7 @@ fn doubles(s: &[u8], from: usize, n: usize) -> [f64; 32]
 
 fn columns(s: &[u8], from: usize, n: usize) -> [usize; 32]
     requires { (n ≤ 32) × (from + n * 8 ≤ length s.now) }
-    ensures { result ≡ columnsTold s.now from n }
+    ensures { result ≡ columns_told s.now from n }
 {
     let mut out = [layout::NONE; 32];
     for b in 0..n {
@@ -59,7 +59,7 @@ fn columns(s: &[u8], from: usize, n: usize) -> [usize; 32]
 
 fn layout_at(s: &[u8], from: usize, n: usize, dim: usize) -> AcPfLayout
     requires { (n ≤ 32) × (from + n * 16 ≤ length s.now) }
-    ensures { result ≡ layoutTold s.now from n dim }
+    ensures { result ≡ layout_told s.now from n dim }
 {
     let va_of = columns(s, from, n);
     let vm_of = columns(s, from + n * 8, n);
@@ -86,7 +86,7 @@ fn equal(xs: [f64; 32], ys: [f64; 32]) -> bool
 
 fn column_told(c: Column, s: &[u8], from: usize, n: usize) -> bool
     requires { (n ≤ 32) × (from + n * 16 ≤ length s.now) }
-    ensures { Tells result (c ≡ columnTold s.now from n) }
+    ensures { Tells result (c ≡ column_told s.now from n) }
 {
     let re = c.re;
     let im = c.im;
@@ -98,7 +98,7 @@ fn column_told(c: Column, s: &[u8], from: usize, n: usize) -> bool
 
 fn injections_told(x: Injections, s: &[u8], from: usize, n: usize) -> bool
     requires { (n ≤ 32) × (from + n * 48 ≤ length s.now) }
-    ensures { Tells result (x ≡ injectionsTold s.now from n) }
+    ensures { Tells result (x ≡ injections_told s.now from n) }
 {
     let phasors = x.phasors;
     let power = x.power;
@@ -119,7 +119,7 @@ fn injections_told(x: Injections, s: &[u8], from: usize, n: usize) -> bool
 // The place i of the workspace: the block of dim rows and columns is told, row by row; every other is 0.0.
 fn place(s: &[u8], from: usize, dim: usize, i: usize) -> f64
     requires { (dim ≤ 64) × (from + dim * dim * 8 ≤ length s.now) }
-    ensures { result ≡ placeTold s.now from dim i }
+    ensures { result ≡ place_told s.now from dim i }
 {
     let row = i / 64;
     let col = i % 64;
@@ -157,8 +157,8 @@ fn injections_agree(
     re: &[f64],
     im: &[f64],
 ) -> bool
-    requires { Fits s.now n m dim × (tripletsOf row.now col.now re.now im.now ≡ tripletsTold s.now m) × GoodTriplets n (tripletsTold s.now m) }
-    ensures { Tells result (injectionsAt s.now n m ≡ injectionsTold s.now (m * 32 + n * 32) n) }
+    requires { Fits s.now n m dim × (triplets_of row.now col.now re.now im.now ≡ triplets_told s.now m) × GoodTriplets n (triplets_told s.now m) }
+    ensures { Tells result (injections_at s.now n m ≡ injections_told s.now (m * 32 + n * 32) n) }
 {
     let vm = doubles(s, m * 32, n);
     let va = doubles(s, m * 32 + n * 8, n);
@@ -177,8 +177,8 @@ fn jacobian_at(
     re: &[f64],
     im: &[f64],
 )
-    requires { (4160 ≤ length w.old) × Fits s.now n m dim × (tripletsOf row.now col.now re.now im.now ≡ tripletsTold s.now m) × GoodTriplets n (tripletsTold s.now m) }
-    ensures { w.new ≡ jacobianAt s.now n m dim w.old }
+    requires { (4160 ≤ length w.old) × Fits s.now n m dim × (triplets_of row.now col.now re.now im.now ≡ triplets_told s.now m) × GoodTriplets n (triplets_told s.now m) }
+    ensures { w.new ≡ jacobian_at s.now n m dim w.old }
 {
     let vm = doubles(s, m * 32, n);
     let va = doubles(s, m * 32 + n * 8, n);
@@ -197,7 +197,7 @@ fn jacobian_agrees(
     re: &[f64],
     im: &[f64],
 ) -> bool
-    requires { Fits s.now n m dim × (tripletsOf row.now col.now re.now im.now ≡ tripletsTold s.now m) × GoodTriplets n (tripletsTold s.now m) }
+    requires { Fits s.now n m dim × (triplets_of row.now col.now re.now im.now ≡ triplets_told s.now m) × GoodTriplets n (triplets_told s.now m) }
     ensures { Tells result (Entries s.now n m dim) }
 {
     let mut space = [0.0; 4224];
@@ -227,7 +227,7 @@ fn agrees(
     re: &[f64],
     im: &[f64],
 ) -> bool
-    requires { Fits s.now n m dim × (tripletsOf row.now col.now re.now im.now ≡ tripletsTold s.now m) }
+    requires { Fits s.now n m dim × (triplets_of row.now col.now re.now im.now ≡ triplets_told s.now m) }
     ensures { Tells result (Agrees s.now n m dim) }
 {
     if !below(n, row) {

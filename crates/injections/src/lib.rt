@@ -3,9 +3,9 @@
 
 ghost use Rattle.std.specs.Prelude.{◌≡◌, ◌<◌, ◌≤◌, length, get_or};
 ghost use Rattle.network.specs.Below.{Below};
-ghost use Rattle.network.specs.Network.{Triplets, tripletsOf};
-ghost use Rattle.injections.specs.Injections.{GoodTriplets, voltagesOf, currentsTo, phasorsOf, injectedOf, injectionsOf};
-ghost use Rattle.injections.specs.Jacobian.{angleOn, angleOff, magnitudePart, onDiagonal, offDiagonal, derivativesOf, entered, enteredRow, enteredAll, jacobianOf};
+ghost use Rattle.network.specs.Network.{Triplets, triplets_of};
+ghost use Rattle.injections.specs.Injections.{GoodTriplets, voltages_of, currents_to, phasors_of, injected_of, injections_of};
+ghost use Rattle.injections.specs.Jacobian.{angle_on, angle_off, magnitude_part, on_diagonal, off_diagonal, derivatives_of, entered, entered_row, entered_all, jacobian_of};
 
 use complex::Complex;
 use layout::AcPfLayout;
@@ -56,7 +56,7 @@ fn bus(buses: &[usize], t: usize, n: usize) -> usize
 
 fn voltages(n: usize, vm: [f64; 32], va: [f64; 32]) -> Column
     requires { n ≤ 32 }
-    ensures { result ≡ voltagesOf n vm va }
+    ensures { result ≡ voltages_of n vm va }
 {
     let mut re = [0.0; 32];
     let mut im = [0.0; 32];
@@ -77,9 +77,9 @@ fn currents(
     v: Column,
 ) -> Column
     ghost y: { Triplets }
-    requires y_im_value { tripletsOf y_row.now y_col.now y_re.now y_im.now ≡ y }
+    requires y_im_value { triplets_of y_row.now y_col.now y_re.now y_im.now ≡ y }
     requires good_triplets { GoodTriplets n y }
-    ensures { result ≡ currentsTo (length y.row) y v }
+    ensures { result ≡ currents_to (length y.row) y v }
 {
     let mut re = [0.0; 32];
     let mut im = [0.0; 32];
@@ -105,9 +105,9 @@ pub fn bus_phasors(
     va: [f64; 32],
 ) -> Phasors
     ghost y: { Triplets }
-    requires y_im_value { tripletsOf y_row.now y_col.now y_re.now y_im.now ≡ y }
+    requires y_im_value { triplets_of y_row.now y_col.now y_re.now y_im.now ≡ y }
     requires good_triplets { GoodTriplets n y }
-    ensures { result ≡ phasorsOf n y vm va }
+    ensures { result ≡ phasors_of n y vm va }
 {
     let v = voltages(n, vm, va);
     let i = currents(n, y_row, y_col, y_re, y_im, v);
@@ -117,7 +117,7 @@ pub fn bus_phasors(
 // S = v conj(i) at each bus.
 pub fn bus_powers(n: usize, s: Phasors) -> Injected
     requires { n ≤ 32 }
-    ensures { result ≡ injectedOf n s }
+    ensures { result ≡ injected_of n s }
 {
     let v = s.v;
     let i = s.i;
@@ -143,9 +143,9 @@ pub fn ac_injections(
     va: [f64; 32],
 ) -> Injections
     ghost y: { Triplets }
-    requires y_im_value { tripletsOf y_row.now y_col.now y_re.now y_im.now ≡ y }
+    requires y_im_value { triplets_of y_row.now y_col.now y_re.now y_im.now ≡ y }
     requires good_triplets { GoodTriplets n y }
-    ensures { result ≡ injectionsOf n y vm va }
+    ensures { result ≡ injections_of n y vm va }
 {
     let phasors = bus_phasors(n, y_row, y_col, y_re, y_im, vm, va);
     let power = bus_powers(n, phasors);
@@ -156,7 +156,7 @@ pub fn ac_injections(
 
 // By an angle: v is the bus's voltage, c its current.
 fn angle_on_diagonal(y: Complex, v: Complex, c: Complex) -> Complex
-    ensures { result ≡ angleOn y v c }
+    ensures { result ≡ angle_on y v c }
 {
     let against = c.difference(y.product(v)).conjugate();
     Complex::I.product(v).product(against)
@@ -164,7 +164,7 @@ fn angle_on_diagonal(y: Complex, v: Complex, c: Complex) -> Complex
 
 // v is the voltage at the triplet's row, vk that at its column.
 fn angle_off_diagonal(y: Complex, v: Complex, vk: Complex) -> Complex
-    ensures { result ≡ angleOff y v vk }
+    ensures { result ≡ angle_off y v vk }
 {
     let against = y.product(vk).conjugate();
     Complex::I.negation().product(v).product(against)
@@ -172,7 +172,7 @@ fn angle_off_diagonal(y: Complex, v: Complex, vk: Complex) -> Complex
 
 // By a magnitude: u is the voltage of magnitude one at the triplet's column.
 fn magnitude_part(y: Complex, v: Complex, u: Complex) -> Complex
-    ensures { result ≡ magnitudePart y v u }
+    ensures { result ≡ magnitude_part y v u }
 {
     let y_conj = y.conjugate();
     let u_conj = u.conjugate();
@@ -180,7 +180,7 @@ fn magnitude_part(y: Complex, v: Complex, u: Complex) -> Complex
 }
 
 fn on_diagonal(y: Complex, v: Complex, c: Complex, u: Complex) -> Derivatives
-    ensures { result ≡ onDiagonal y v c u }
+    ensures { result ≡ on_diagonal y v c u }
 {
     let dva = angle_on_diagonal(y, v, c);
     let own = magnitude_part(y, v, u);
@@ -189,7 +189,7 @@ fn on_diagonal(y: Complex, v: Complex, c: Complex, u: Complex) -> Derivatives
 }
 
 fn off_diagonal(y: Complex, v: Complex, vk: Complex, u: Complex) -> Derivatives
-    ensures { result ≡ offDiagonal y v vk u }
+    ensures { result ≡ off_diagonal y v vk u }
 {
     let dva = angle_off_diagonal(y, v, vk);
     let dvm = magnitude_part(y, v, u);
@@ -206,7 +206,7 @@ fn derivatives_at(
     vk: Complex,
     u: Complex,
 ) -> Derivatives
-    ensures { result ≡ derivativesOf i k y v c vk u }
+    ensures { result ≡ derivatives_of i k y v c vk u }
 {
     if i == k {
         return on_diagonal(y, v, c, u);
@@ -229,7 +229,7 @@ fn enter(w: &mut [f64], row: usize, col: usize, x: f64)
 // The entries of one row: x in the angle's column, then y in the magnitude's.
 fn enter_row(w: &mut [f64], row: usize, va: usize, vm: usize, x: f64, y: f64)
     requires { 4160 ≤ length w.old }
-    ensures { w.new ≡ enteredRow row va vm x y w.old }
+    ensures { w.new ≡ entered_row row va vm x y w.old }
 {
     enter(w, row, va, x);
     enter(w, row, vm, y);
@@ -238,7 +238,7 @@ fn enter_row(w: &mut [f64], row: usize, va: usize, vm: usize, x: f64, y: f64)
 // The entries of a triplet, active row first: p and q are its rows, va and vm its columns.
 fn enter_all(w: &mut [f64], p: usize, q: usize, va: usize, vm: usize, d: Derivatives)
     requires { 4160 ≤ length w.old }
-    ensures { w.new ≡ enteredAll p q va vm d w.old }
+    ensures { w.new ≡ entered_all p q va vm d w.old }
 {
     enter_row(w, p, va, vm, d.dva.re, d.dvm.re);
     enter_row(w, q, va, vm, d.dva.im, d.dvm.im);
@@ -256,9 +256,9 @@ pub fn ac_jacobian(
     w: &mut [f64],
 )
     ghost y: { Triplets }
-    requires y_im_value { tripletsOf y_row.now y_col.now y_re.now y_im.now ≡ y }
+    requires y_im_value { triplets_of y_row.now y_col.now y_re.now y_im.now ≡ y }
     requires good_triplets { GoodTriplets n y × (4160 ≤ length w.old) }
-    ensures { w.new ≡ jacobianOf y va s layout w.old }
+    ensures { w.new ≡ jacobian_of y va s layout w.old }
 {
     // Voltages of magnitude one, once for each bus and not for each triplet.
     let unit = voltages(n, [1.0; 32], va);

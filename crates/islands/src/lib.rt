@@ -3,8 +3,8 @@
 
 ghost use Rattle.std.specs.Prelude.{◌≡◌, ℕ, ◌<◌, ◌≤◌};
 ghost use Rattle.real.specs.Each.{each};
-ghost use Rattle.islands.specs.Forest.{Forest, Grown, joinedRoot, orInsert};
-ghost use Rattle.islands.specs.Islands.{Ends, islandOf, labelBy, labelsOf, labelTable};
+ghost use Rattle.islands.specs.Forest.{Forest, Grown, joined_root, or_insert};
+ghost use Rattle.islands.specs.Islands.{Ends, island_of, label_by, labels_of, label_table};
 
 // The root above `node`. Each bus passed is hung one place higher on the way.
 fn find(parent: &mut [usize; 32], node: usize) -> usize
@@ -34,7 +34,7 @@ fn alone() -> [usize; 32]
 // One line: the root of `to` is hung below the root of `from`.
 fn join(parent: &mut [usize; 32], from: usize, to: usize)
     requires { (from < 32) × (to < 32) × Grown parent.old }
-    ensures { (rank root : ℕ → ℕ) → Forest rank root parent.old → (lifted : ℕ → ℕ) × Forest lifted (joinedRoot root from to) parent.new }
+    ensures { (rank root : ℕ → ℕ) → Forest rank root parent.old → (lifted : ℕ → ℕ) × Forest lifted (joined_root root from to) parent.new }
 {
     let ra = find(parent, from);
     let rb = find(parent, to);
@@ -45,7 +45,7 @@ fn join(parent: &mut [usize; 32], from: usize, to: usize)
 
 fn join_all(br_from: &[usize], br_to: &[usize]) -> [usize; 32]
     requires { Ends 32 br_from.now br_to.now }
-    ensures { (rank : ℕ → ℕ) × Forest rank (islandOf br_from.now br_to.now) result }
+    ensures { (rank : ℕ → ℕ) × Forest rank (island_of br_from.now br_to.now) result }
 {
     let mut parent = alone();
     for k in 0..br_from.len() {
@@ -64,7 +64,7 @@ struct Labels {
 // A root met for the first time takes the next label.
 fn or_insert(label: Labels, root: usize) -> Labels
     requires { (root < 32) × (label.next ≤ 32) }
-    ensures { result ≡ orInsert label root }
+    ensures { result ≡ or_insert label root }
 {
     let mut of = label.of;
     if of[root] != 32 {
@@ -79,7 +79,7 @@ fn or_insert(label: Labels, root: usize) -> Labels
 
 fn label_all(n: usize, parent: [usize; 32]) -> [usize; 32]
     requires { (n ≤ 32) × Grown parent }
-    ensures { (rank root : ℕ → ℕ) → Forest rank root parent → result ≡ labelTable n (each n (labelBy root)) }
+    ensures { (rank root : ℕ → ℕ) → Forest rank root parent → result ≡ label_table n (each n (label_by root)) }
 {
     let mut parent = parent;
     let mut label = Labels {
@@ -98,7 +98,7 @@ fn label_all(n: usize, parent: [usize; 32]) -> [usize; 32]
 
 pub fn dense_islands(n: usize, br_from: &[usize], br_to: &[usize]) -> [usize; 32]
     requires { (n ≤ 32) × Ends n br_from.now br_to.now }
-    ensures { result ≡ labelTable n (labelsOf n br_from.now br_to.now) }
+    ensures { result ≡ label_table n (labels_of n br_from.now br_to.now) }
 {
     label_all(n, join_all(br_from, br_to))
 }

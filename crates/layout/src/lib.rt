@@ -4,10 +4,10 @@
 ghost use Rattle.std.specs.Prelude.{◌≡◌, ◌+◌, ◌<◌, ◌≤◌, length, get_or};
 ghost use Rattle.network.specs.Below.{Below};
 ghost use Rattle.layout.specs.Table.{table};
-ghost use Rattle.layout.specs.Kinds.{flagKind, kindsOf};
-ghost use Rattle.layout.specs.Layout.{none, isAngle, has, number, after, count_to, number_at, layout_of, vaCol, vmCol, pRow, qRow, kindIn};
-ghost use Rattle.layout.specs.Residual.{powers, missing, at_row, residualOf};
-ghost use Rattle.layout.specs.Limits.{limitsOf};
+ghost use Rattle.layout.specs.Kinds.{flag_kind, kinds_of};
+ghost use Rattle.layout.specs.Layout.{none, is_angle, has, number, after, count_to, number_at, layout_of, va_col, vm_col, p_row, q_row, kind_in};
+ghost use Rattle.layout.specs.Residual.{powers, missing, at_row, residual_of};
+ghost use Rattle.layout.specs.Limits.{limits_of};
 ghost use Rattle.layout.specs.declared.BusKind.TheVariants.{Pq};
 
 // Bus role in the power flow: the reference slack, a voltage-regulating generator bus, or a load bus.
@@ -56,7 +56,7 @@ pub struct Limits {
 // ---- kinds
 
 fn flag_kind(byte: u8) -> BusKind
-    ensures { result ≡ flagKind byte }
+    ensures { result ≡ flag_kind byte }
 {
     if byte == b'V' {
         BusKind::Pv
@@ -67,7 +67,7 @@ fn flag_kind(byte: u8) -> BusKind
 
 fn flagged(n: usize, kind: &[u8]) -> [BusKind; 32]
     requires { (n ≤ 32) × (n ≤ length kind.now) }
-    ensures { result ≡ table n Pq (λ b. flagKind (get_or kind.now b 0)) }
+    ensures { result ≡ table n Pq (λ b. flag_kind (get_or kind.now b 0)) }
 {
     let mut kinds = [BusKind::Pq; 32];
     for b in 0..n {
@@ -80,7 +80,7 @@ fn flagged(n: usize, kind: &[u8]) -> [BusKind; 32]
 // Q, then V where flagged, then slack where listed.
 pub fn default_kinds(n: usize, kind: &[u8], slacks: &[usize]) -> [BusKind; 32]
     requires { (n ≤ 32) × (n ≤ length kind.now) × Below n slacks.now }
-    ensures { result ≡ kindsOf n kind.now slacks.now }
+    ensures { result ≡ kinds_of n kind.now slacks.now }
 {
     let mut kinds = flagged(n, kind);
     for i in 0..slacks.len() {
@@ -94,7 +94,7 @@ pub fn default_kinds(n: usize, kind: &[u8], slacks: &[usize]) -> [BusKind; 32]
 
 // The unknown of a V bus.
 fn is_angle(u: Unknown) -> bool
-    ensures { result ≡ isAngle u }
+    ensures { result ≡ is_angle u }
 {
     match u {
         Unknown::Angle => true,
@@ -195,7 +195,7 @@ impl AcPfLayout {
     // The kind of a bus, from its columns.
     pub fn kind(self, bus: usize) -> BusKind
         requires { bus < 32 }
-        ensures { result ≡ kindIn self bus }
+        ensures { result ≡ kind_in self bus }
     {
         let va = self.va_of[bus];
         let vm = self.vm_of[bus];
@@ -210,14 +210,14 @@ impl AcPfLayout {
 
     pub fn va_col(self, bus: usize) -> usize
         requires { bus < 32 }
-        ensures { result ≡ vaCol self bus }
+        ensures { result ≡ va_col self bus }
     {
         self.va_of[bus]
     }
 
     pub fn vm_col(self, bus: usize) -> usize
         requires { bus < 32 }
-        ensures { result ≡ vmCol self bus }
+        ensures { result ≡ vm_col self bus }
     {
         self.vm_of[bus]
     }
@@ -225,14 +225,14 @@ impl AcPfLayout {
     // A row has the number of its column.
     pub fn p_row(self, bus: usize) -> usize
         requires { bus < 32 }
-        ensures { result ≡ pRow self bus }
+        ensures { result ≡ p_row self bus }
     {
         self.va_col(bus)
     }
 
     pub fn q_row(self, bus: usize) -> usize
         requires { bus < 32 }
-        ensures { result ≡ qRow self bus }
+        ensures { result ≡ q_row self bus }
     {
         self.vm_col(bus)
     }
@@ -248,7 +248,7 @@ impl AcPfLayout {
         q_calc: [f64; 32],
     ) -> [f64; 64]
         requires { (self.n ≤ 32) × (self.n ≤ length pd.now) × (self.n ≤ length qd.now) × (self.n ≤ length pg.now) }
-        ensures { result ≡ residualOf self (powers pd.now qd.now pg.now qg p_calc q_calc) }
+        ensures { result ≡ residual_of self (powers pd.now qd.now pg.now qg p_calc q_calc) }
     {
         let n = self.n;
         let mut r = [0.0; 64];
@@ -267,7 +267,7 @@ impl AcPfLayout {
 // The limits of all generators at a bus, summed in generator order.
 pub fn aggregate_q(gen_bus: &[usize], qmin: &[f64], qmax: &[f64]) -> Limits
     requires { (length qmin.now ≡ length gen_bus.now) × (length qmax.now ≡ length gen_bus.now) × Below 32 gen_bus.now }
-    ensures { result ≡ limitsOf gen_bus.now qmin.now qmax.now }
+    ensures { result ≡ limits_of gen_bus.now qmin.now qmax.now }
 {
     let mut qmin_bus = [0.0; 32];
     let mut qmax_bus = [0.0; 32];

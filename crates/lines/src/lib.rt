@@ -3,7 +3,7 @@
 
 ghost use Rattle.std.specs.Prelude.{[], ◌∷◌, ◌+◌, ◌*◌, ◌≤◌, length};
 ghost use Rattle.real.specs.declared.Value.TheVariants.{Whole, Real};
-ghost use Rattle.lines.specs.Lines.{Wrote, printedDecimal, printedReal, printedValue, okLine, fourReals, busLine, busLines, branchLine, branchLines, head_of, refusedLine};
+ghost use Rattle.lines.specs.Lines.{Wrote, printed_decimal, printed_real, printed_value, ok_line, four_reals, bus_line, bus_lines, branch_line, branch_lines, head_of, refused_line};
 
 use real::Value;
 
@@ -28,7 +28,7 @@ fn put_byte(b: u8, at: usize, out: &mut [u8]) -> usize
 // A whole number in decimal: at most 20 digits.
 fn put_decimal(n: usize, at: usize, out: &mut [u8]) -> usize
     requires { at + 20 ≤ length out.old }
-    ensures { Wrote out.old at (printedDecimal n) result out.new × (result ≤ at + 20) }
+    ensures { Wrote out.old at (printed_decimal n) result out.new × (result ≤ at + 20) }
 {
     let mut text = [0u8; 20];
     let k = io::decimal(n as u64, &mut text);
@@ -38,7 +38,7 @@ fn put_decimal(n: usize, at: usize, out: &mut [u8]) -> usize
 // A real: `nan`, or the 16 hexadecimal digits of its bits.
 fn put_real(x: f64, at: usize, out: &mut [u8]) -> usize
     requires { at + 16 ≤ length out.old }
-    ensures { Wrote out.old at (printedReal x) result out.new × (result ≤ at + 16) }
+    ensures { Wrote out.old at (printed_real x) result out.new × (result ≤ at + 16) }
 {
     if x != x {
         return put(b"nan", at, out);
@@ -51,7 +51,7 @@ fn put_real(x: f64, at: usize, out: &mut [u8]) -> usize
 // A space and a real.
 fn put_gap(x: f64, at: usize, out: &mut [u8]) -> usize
     requires { at + 17 ≤ length out.old }
-    ensures { Wrote out.old at (printedValue (Real x)) result out.new × (result ≤ at + 17) }
+    ensures { Wrote out.old at (printed_value (Real x)) result out.new × (result ≤ at + 17) }
 {
     let k = put_byte(b' ', at, out);
     put_real(x, k, out)
@@ -60,7 +60,7 @@ fn put_gap(x: f64, at: usize, out: &mut [u8]) -> usize
 // A space and a whole number.
 fn put_count(n: usize, at: usize, out: &mut [u8]) -> usize
     requires { at + 21 ≤ length out.old }
-    ensures { Wrote out.old at (printedValue (Whole n)) result out.new × (result ≤ at + 21) }
+    ensures { Wrote out.old at (printed_value (Whole n)) result out.new × (result ≤ at + 21) }
 {
     let k = put_byte(b' ', at, out);
     put_decimal(n, k, out)
@@ -69,7 +69,7 @@ fn put_count(n: usize, at: usize, out: &mut [u8]) -> usize
 // A space and a value.
 fn put_value(v: Value, at: usize, out: &mut [u8]) -> usize
     requires { at + 21 ≤ length out.old }
-    ensures { Wrote out.old at (printedValue v) result out.new × (result ≤ at + 21) }
+    ensures { Wrote out.old at (printed_value v) result out.new × (result ≤ at + 21) }
 {
     match v {
         Value::Whole(n) => put_count(n, at, out),
@@ -80,7 +80,7 @@ fn put_value(v: Value, at: usize, out: &mut [u8]) -> usize
 // The first line of a solved case.
 pub fn put_ok(iterations: usize, residual: f64, out: &mut [u8]) -> usize
     requires { 41 ≤ length out.old }
-    ensures { Wrote out.old 0 (okLine iterations residual) result out.new × (result ≤ 41) }
+    ensures { Wrote out.old 0 (ok_line iterations residual) result out.new × (result ≤ 41) }
 {
     let a = put(b"ok", 0, out);
     let b = put_count(iterations, a, out);
@@ -91,7 +91,7 @@ pub fn put_ok(iterations: usize, residual: f64, out: &mut [u8]) -> usize
 // Four reals, each after a space.
 fn put_four(a: f64, b: f64, c: f64, d: f64, at: usize, out: &mut [u8]) -> usize
     requires { at + 68 ≤ length out.old }
-    ensures { Wrote out.old at (fourReals a b c d) result out.new × (result ≤ at + 68) }
+    ensures { Wrote out.old at (four_reals a b c d) result out.new × (result ≤ at + 68) }
 {
     let i = put_gap(a, at, out);
     let j = put_gap(b, i, out);
@@ -111,7 +111,7 @@ fn put_bus(
     out: &mut [u8],
 ) -> usize
     requires { at + 91 ≤ length out.old }
-    ensures { Wrote out.old at (busLine bus kind vm va p q) result out.new × (result ≤ at + 91) }
+    ensures { Wrote out.old at (bus_line bus kind vm va p q) result out.new × (result ≤ at + 91) }
 {
     let a = put_decimal(bus, at, out);
     let b = put_byte(b' ', a, out);
@@ -132,7 +132,7 @@ pub fn put_buses(
     out: &mut [u8],
 ) -> usize
     requires { (n ≤ length vm.now) × (n ≤ length va.now) × (n ≤ length p.now) × (n ≤ length q.now) × (n ≤ length kinds.now) × (at + 91 * n ≤ length out.old) }
-    ensures { Wrote out.old at (busLines n vm.now va.now p.now q.now kinds.now) result out.new × (result ≤ at + 91 * n) }
+    ensures { Wrote out.old at (bus_lines n vm.now va.now p.now q.now kinds.now) result out.new × (result ≤ at + 91 * n) }
 {
     let mut k = at;
     for b in 0..n {
@@ -153,7 +153,7 @@ fn put_branch(
     out: &mut [u8],
 ) -> usize
     requires { at + 106 ≤ length out.old }
-    ensures { Wrote out.old at (branchLine row pf qf pt qt loss) result out.new × (result ≤ at + 106) }
+    ensures { Wrote out.old at (branch_line row pf qf pt qt loss) result out.new × (result ≤ at + 106) }
 {
     let a = put_decimal(row, at, out);
     let b = put_four(pf, qf, pt, qt, a, out);
@@ -173,7 +173,7 @@ pub fn put_branches(
     out: &mut [u8],
 ) -> usize
     requires { (n ≤ 64) × (at + 106 * n ≤ length out.old) }
-    ensures { Wrote out.old at (branchLines n pf qf pt qt loss) result out.new × (result ≤ at + 106 * n) }
+    ensures { Wrote out.old at (branch_lines n pf qf pt qt loss) result out.new × (result ≤ at + 106 * n) }
 {
     let mut k = at;
     for e in 0..n {
@@ -194,7 +194,7 @@ fn put_head(number: usize, out: &mut [u8]) -> usize
 // A refusal with nothing beside its number.
 pub fn put_bare(number: usize, out: &mut [u8]) -> usize
     requires { 29 ≤ length out.old }
-    ensures { Wrote out.old 0 (refusedLine number []) result out.new × (result ≤ 29) }
+    ensures { Wrote out.old 0 (refused_line number []) result out.new × (result ≤ 29) }
 {
     let a = put_head(number, out);
     put_byte(b'\n', a, out)
@@ -203,7 +203,7 @@ pub fn put_bare(number: usize, out: &mut [u8]) -> usize
 // A refusal with one value beside its number.
 pub fn put_one(number: usize, v: Value, out: &mut [u8]) -> usize
     requires { 50 ≤ length out.old }
-    ensures { Wrote out.old 0 (refusedLine number (v ∷ [])) result out.new × (result ≤ 50) }
+    ensures { Wrote out.old 0 (refused_line number (v ∷ [])) result out.new × (result ≤ 50) }
 {
     let a = put_head(number, out);
     let b = put_value(v, a, out);
@@ -213,7 +213,7 @@ pub fn put_one(number: usize, v: Value, out: &mut [u8]) -> usize
 // A refusal with two.
 pub fn put_two(number: usize, v: Value, u: Value, out: &mut [u8]) -> usize
     requires { 71 ≤ length out.old }
-    ensures { Wrote out.old 0 (refusedLine number (v ∷ u ∷ [])) result out.new × (result ≤ 71) }
+    ensures { Wrote out.old 0 (refused_line number (v ∷ u ∷ [])) result out.new × (result ≤ 71) }
 {
     let a = put_head(number, out);
     let b = put_value(v, a, out);

@@ -4,7 +4,7 @@
 
 ghost use Rattle.std.specs.Prelude.{◌≡◌, ◌+◌, ◌-◌, ◌*◌, ◌≤◌, ◌<◌, length};
 ghost use Rattle.real.specs.Literals.{nought};
-ghost use Rattle.linsolve.specs.Linear.{at, zeroed, cleared, added, pivotFrom, swapped, swapRows, subRow, afterPivot, subLower, outcome, reduce, lessKnown, substitute, solution};
+ghost use Rattle.linsolve.specs.Linear.{at, zeroed, cleared, added, pivot_from, swapped, swap_rows, sub_row, after_pivot, sub_lower, outcome, reduce, less_known, substitute, solution};
 
 #[derive(Drop)]
 pub enum Solution {
@@ -49,7 +49,7 @@ pub fn add_entry(w: &mut [f64], row: usize, col: usize, x: f64)
 // The row of the pivot of a column, at or below the diagonal; dim where there is none.
 fn pivot_row(w: &[f64], dim: usize, col: usize) -> usize
     requires { (4160 ≤ length w.now) × (dim ≤ 64) × (col < dim) }
-    ensures { result ≡ pivotFrom (dim - col) col col nought dim w.now }
+    ensures { result ≡ pivot_from (dim - col) col col nought dim w.now }
 {
     let mut best = 0.0;
     let mut p = dim;
@@ -77,7 +77,7 @@ fn swap(w: &mut [f64], i: usize, j: usize)
 
 fn swap_rows(w: &mut [f64], dim: usize, a: usize, b: usize)
     requires { (4160 ≤ length w.old) × (dim ≤ 64) × (a < dim) × (b < dim) }
-    ensures { w.new ≡ swapRows dim 0 a b w.old }
+    ensures { w.new ≡ swap_rows dim 0 a b w.old }
 {
     if a == b {
         return;
@@ -93,7 +93,7 @@ fn swap_rows(w: &mut [f64], dim: usize, a: usize, b: usize)
 // Subtracts f times row p from row r, after column p: that column and those further left are read no more.
 fn sub_row(w: &mut [f64], dim: usize, p: usize, r: usize, f: f64)
     requires { (4160 ≤ length w.old) × (dim ≤ 64) × (p < dim) × (r < dim) }
-    ensures { w.new ≡ subRow (dim - (p + 1)) (p + 1) p r f w.old }
+    ensures { w.new ≡ sub_row (dim - (p + 1)) (p + 1) p r f w.old }
 {
     let mut c = p + 1;
     while c < dim {
@@ -109,7 +109,7 @@ fn sub_row(w: &mut [f64], dim: usize, p: usize, r: usize, f: f64)
 
 fn sub_lower(w: &mut [f64], dim: usize, p: usize)
     requires { (4160 ≤ length w.old) × (dim ≤ 64) × (p < dim) }
-    ensures { w.new ≡ subLower afterPivot (dim - (p + 1)) (p + 1) p dim w.old }
+    ensures { w.new ≡ sub_lower after_pivot (dim - (p + 1)) (p + 1) p dim w.old }
 {
     let mut r = p + 1;
     while r < dim {
@@ -123,7 +123,7 @@ fn sub_lower(w: &mut [f64], dim: usize, p: usize)
 
 fn reduce_rows(w: &mut [f64], dim: usize) -> Solution
     requires { (4160 ≤ length w.old) × (dim ≤ 64) }
-    ensures { outcome result w.new ≡ reduce afterPivot dim 0 dim w.old }
+    ensures { outcome result w.new ≡ reduce after_pivot dim 0 dim w.old }
 {
     let mut col = 0;
     while col < dim {
@@ -141,7 +141,7 @@ fn reduce_rows(w: &mut [f64], dim: usize) -> Solution
 // The right side of row r less the products of its entries and the unknowns after it, in rising column order.
 fn less_known(w: &[f64], dim: usize, r: usize) -> f64
     requires { (4160 ≤ length w.now) × (dim ≤ 64) × (r < dim) }
-    ensures { result ≡ lessKnown (dim - (r + 1)) (r + 1) r (at w.now (4096 + r)) w.now }
+    ensures { result ≡ less_known (dim - (r + 1)) (r + 1) r (at w.now (4096 + r)) w.now }
 {
     let side = 4096 + r;
     let mut acc = w[side];

@@ -4,7 +4,7 @@
 
 ghost use Rattle.std.specs.Prelude.{◌≡◌, ◌+◌, ◌*◌, ◌≤◌, ◌<◌, length};
 ghost use Rattle.vectors.specs.Words.{word_of, Tells, Found};
-ghost use Rattle.linsolve_vectors.specs.Told.{size_of, slot_of, mark_of, toldOf, Holds, number_of, Agrees};
+ghost use Rattle.linsolve_vectors.specs.Told.{size_of, slot_of, mark_of, told_of, Holds, number_of, Agrees};
 
 use libc::STDIN_FILENO;
 
@@ -42,7 +42,7 @@ fn mark(i: usize) -> f64
 
 fn told(s: &[u8], from: usize, dim: usize, i: usize) -> f64
     requires { (dim ≤ 64) × (i < 4224) × (from + size_of dim * 8 ≤ length s.now) }
-    ensures { result ≡ toldOf s.now from dim i }
+    ensures { result ≡ told_of s.now from dim i }
 {
     let k = slot(dim, i);
     if k == size(dim) {

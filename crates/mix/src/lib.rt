@@ -2,7 +2,7 @@
 #![tactic(auto)]
 
 ghost use Rattle.std.specs.Prelude.{◌≡◌};
-ghost use Rattle.mix.specs.Noise.{times, mixOf};
+ghost use Rattle.mix.specs.Noise.{times, mix_of};
 
 // a * b without its carries, by halves of 32 digits. What the upper halves make together is dropped whole.
 fn wrapping_mul(a: u64, b: u64) -> u64
@@ -20,7 +20,7 @@ fn wrapping_mul(a: u64, b: u64) -> u64
 const LARGEST: f64 = 18446744073709551616.0;
 
 pub fn mix(a: u64, b: u64) -> f64
-    ensures { result ≡ mixOf a b }
+    ensures { result ≡ mix_of a b }
 {
     let x = wrapping_mul(a, 0x9E37_79B9_7F4A_7C15) ^ wrapping_mul(b, 0xD1B5_4A32_D192_ED03);
     let y = wrapping_mul(x ^ (x >> 33), 0xFF51_AFD7_ED55_8CCD);

@@ -2,8 +2,8 @@
 #![tactic(auto)]
 
 ghost use Rattle.std.specs.Prelude.{◌≡◌, ◌≤◌, length};
-ghost use Rattle.moves.specs.Moves.{movePv, movePq, move_of, is_move, kindAfter, schedAfter, convertedAfter, revertedAfter, pinOf, schedAt, kindLetter};
-ghost use Rattle.moves.specs.Moves.{moves_of, anyGenerator, anyMove, kindsAfter, trackAfter, pinned, scheduleOf, keptKinds, lettersOf};
+ghost use Rattle.moves.specs.Moves.{move_pv, move_pq, move_of, is_move, kind_after, sched_after, converted_after, reverted_after, pin_of, sched_at, kind_letter};
+ghost use Rattle.moves.specs.Moves.{moves_of, any_generator, any_move, kinds_after, track_after, pinned, schedule_of, kept_kinds, letters_of};
 
 use layout::{BusKind, Limits, Point};
 use real::{Q_TOL, V_BACK};
@@ -34,7 +34,7 @@ pub struct Track {
 // ---- one bus
 
 fn move_pv(q: f64, lo: f64, hi: f64) -> Move
-    ensures { result ≡ movePv q lo hi }
+    ensures { result ≡ move_pv q lo hi }
 {
     if q > hi + Q_TOL {
         return Move::AtMax;
@@ -47,7 +47,7 @@ fn move_pv(q: f64, lo: f64, hi: f64) -> Move
 
 // A converted bus that could hold its voltage within the limit is reverted, once at most.
 fn move_pq(converted: u8, reverted: bool, v: f64, hold: f64) -> Move
-    ensures { result ≡ movePq converted reverted v hold }
+    ensures { result ≡ move_pq converted reverted v hold }
 {
     if reverted {
         return Move::Keep;
@@ -103,7 +103,7 @@ fn is_move(m: Move) -> bool
 }
 
 fn kind_after(m: Move, k: BusKind) -> BusKind
-    ensures { result ≡ kindAfter m k }
+    ensures { result ≡ kind_after m k }
 {
     match m {
         Move::Keep => k,
@@ -114,7 +114,7 @@ fn kind_after(m: Move, k: BusKind) -> BusKind
 }
 
 fn sched_after(m: Move, s: f64, lo: f64, hi: f64, qg: f64) -> f64
-    ensures { result ≡ schedAfter m s lo hi qg }
+    ensures { result ≡ sched_after m s lo hi qg }
 {
     match m {
         Move::Keep => s,
@@ -125,7 +125,7 @@ fn sched_after(m: Move, s: f64, lo: f64, hi: f64, qg: f64) -> f64
 }
 
 fn converted_after(m: Move, c: u8) -> u8
-    ensures { result ≡ convertedAfter m c }
+    ensures { result ≡ converted_after m c }
 {
     match m {
         Move::Keep => c,
@@ -136,7 +136,7 @@ fn converted_after(m: Move, c: u8) -> u8
 }
 
 fn reverted_after(m: Move, r: bool) -> bool
-    ensures { result ≡ revertedAfter m r }
+    ensures { result ≡ reverted_after m r }
 {
     match m {
         Move::Keep => r,
@@ -147,7 +147,7 @@ fn reverted_after(m: Move, r: bool) -> bool
 }
 
 fn pin_of(k: BusKind, v: f64, hold: f64) -> f64
-    ensures { result ≡ pinOf k v hold }
+    ensures { result ≡ pin_of k v hold }
 {
     match k {
         BusKind::Slack => hold,
@@ -157,7 +157,7 @@ fn pin_of(k: BusKind, v: f64, hold: f64) -> f64
 }
 
 fn sched_at(k: BusKind, q: f64) -> f64
-    ensures { result ≡ schedAt k q }
+    ensures { result ≡ sched_at k q }
 {
     match k {
         BusKind::Slack => 0.0,
@@ -167,7 +167,7 @@ fn sched_at(k: BusKind, q: f64) -> f64
 }
 
 fn letter_of(k: BusKind) -> u8
-    ensures { result ≡ kindLetter k }
+    ensures { result ≡ kind_letter k }
 {
     match k {
         BusKind::Slack => b'S',
@@ -213,7 +213,7 @@ pub fn moves(
 
 pub fn any_move(n: usize, ms: [Move; 32]) -> bool
     requires { n ≤ 32 }
-    ensures { result ≡ anyMove n ms }
+    ensures { result ≡ any_move n ms }
 {
     let mut any = false;
     for b in 0..n {
@@ -225,7 +225,7 @@ pub fn any_move(n: usize, ms: [Move; 32]) -> bool
 
 pub fn kinds_after(n: usize, kinds: [BusKind; 32], ms: [Move; 32]) -> [BusKind; 32]
     requires { n ≤ 32 }
-    ensures { result ≡ kindsAfter n kinds ms }
+    ensures { result ≡ kinds_after n kinds ms }
 {
     let mut next = kinds;
     for b in 0..n {
@@ -239,7 +239,7 @@ pub fn kinds_after(n: usize, kinds: [BusKind; 32], ms: [Move; 32]) -> [BusKind; 
 
 pub fn track_after(n: usize, t: Track, limits: Limits, qg: [f64; 32], ms: [Move; 32]) -> Track
     requires { n ≤ 32 }
-    ensures { result ≡ trackAfter n t limits qg ms }
+    ensures { result ≡ track_after n t limits qg ms }
 {
     let mut next = t;
     for b in 0..n {
@@ -271,7 +271,7 @@ pub fn pin(n: usize, kinds: [BusKind; 32], vm_hold: [f64; 32], p: Point) -> Poin
 // What is scheduled at the Q buses: no other bus's figure is read by Newton.
 pub fn schedule(n: usize, kinds: [BusKind; 32], qsched: [f64; 32]) -> [f64; 32]
     requires { n ≤ 32 }
-    ensures { result ≡ scheduleOf n kinds qsched }
+    ensures { result ≡ schedule_of n kinds qsched }
 {
     let mut t = [0.0; 32];
     for b in 0..n {
@@ -283,7 +283,7 @@ pub fn schedule(n: usize, kinds: [BusKind; 32], qsched: [f64; 32]) -> [f64; 32]
 
 pub fn kept_kinds(n: usize, kinds: [BusKind; 32]) -> [KindAt; 32]
     requires { n ≤ 32 }
-    ensures { result ≡ keptKinds n kinds }
+    ensures { result ≡ kept_kinds n kinds }
 {
     let mut t = [KindAt {
         kind: BusKind::Slack,
@@ -297,7 +297,7 @@ pub fn kept_kinds(n: usize, kinds: [BusKind; 32]) -> [KindAt; 32]
 
 pub fn letters(n: usize, kinds: [KindAt; 32]) -> [u8; 32]
     requires { n ≤ 32 }
-    ensures { result ≡ lettersOf n kinds }
+    ensures { result ≡ letters_of n kinds }
 {
     let mut ls = [0u8; 32];
     for b in 0..n {
@@ -310,7 +310,7 @@ pub fn letters(n: usize, kinds: [KindAt; 32]) -> [u8; 32]
 
 pub fn any_generator(n: usize, has_gen: [bool; 32]) -> bool
     requires { n ≤ 32 }
-    ensures { result ≡ anyGenerator n has_gen }
+    ensures { result ≡ any_generator n has_gen }
 {
     let mut any = false;
     for b in 0..n {

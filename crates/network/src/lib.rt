@@ -2,12 +2,12 @@
 #![tactic(auto)]
 
 ghost use Rattle.std.specs.Prelude.{◌≡◌, length};
-ghost use Rattle.real.specs.First.{firstBelow};
-ghost use Rattle.network.specs.Network.{busesOf, slacksOf, generatorsOf, branchesOf, tripletsOf, networkOf, fits_of};
-ghost use Rattle.network.specs.Checks.{same3, same7, busesCounted, slacksCounted, generatorsCounted, branchesCounted, tripletsCounted};
+ghost use Rattle.real.specs.First.{first_below};
+ghost use Rattle.network.specs.Network.{buses_of, slacks_of, generators_of, branches_of, triplets_of, network_of, fits_of};
+ghost use Rattle.network.specs.Checks.{same3, same7, buses_counted, slacks_counted, generators_counted, branches_counted, triplets_counted};
 ghost use Rattle.network.specs.Checks.{counted};
-ghost use Rattle.network.specs.BranchTable.{values_of, valuesCounted};
-ghost use Rattle.network.specs.Missing.{busMissing, endMissing, inColumn, firstField, inEnds, orNext, missingBy};
+ghost use Rattle.network.specs.BranchTable.{values_of, values_counted};
+ghost use Rattle.network.specs.Missing.{bus_missing, end_missing, in_column, first_field, in_ends, or_next, missing_by};
 
 use real::First;
 
@@ -54,8 +54,8 @@ fn buses_counted(
     vm_case: &[f64],
     va_case: &[f64],
 ) -> bool
-    ensures { result ≡ busesCounted
-        (busesOf kind.now vm_set.now pd.now qd.now pg.now qg.now
+    ensures { result ≡ buses_counted
+        (buses_of kind.now vm_set.now pd.now qd.now pg.now qg.now
         vm_case.now va_case.now) }
 {
     let n = kind.len();
@@ -73,26 +73,26 @@ fn buses_counted(
 }
 
 fn slacks_counted(slacks: &[usize], va_slacks: &[f64]) -> bool
-    ensures { result ≡ slacksCounted (slacksOf slacks.now va_slacks.now) }
+    ensures { result ≡ slacks_counted (slacks_of slacks.now va_slacks.now) }
 {
     real::and(slacks.len() <= 32, va_slacks.len() == slacks.len())
 }
 
 fn generators_counted(gen_bus: &[usize], qmin: &[f64], qmax: &[f64]) -> bool
-    ensures { result ≡ generatorsCounted (generatorsOf gen_bus.now qmin.now qmax.now) }
+    ensures { result ≡ generators_counted (generators_of gen_bus.now qmin.now qmax.now) }
 {
     let n = gen_bus.len();
     real::and(n <= 32, real::and(qmin.len() == n, qmax.len() == n))
 }
 
 fn branches_counted(br_from: &[usize], br_to: &[usize]) -> bool
-    ensures { result ≡ branchesCounted (branchesOf br_from.now br_to.now) }
+    ensures { result ≡ branches_counted (branches_of br_from.now br_to.now) }
 {
     real::and(br_from.len() <= 64, br_to.len() == br_from.len())
 }
 
 fn triplets_counted(y_row: &[usize], y_col: &[usize], y_re: &[f64], y_im: &[f64]) -> bool
-    ensures { result ≡ tripletsCounted (tripletsOf y_row.now y_col.now y_re.now y_im.now) }
+    ensures { result ≡ triplets_counted (triplets_of y_row.now y_col.now y_re.now y_im.now) }
 {
     let n = y_row.len();
     real::and(n <= 256, equal3(n, y_col.len(), y_re.len(), y_im.len()))
@@ -119,13 +119,13 @@ pub fn counted(
     y_re: &[f64],
     y_im: &[f64],
 ) -> bool
-    ensures { result ≡ counted (networkOf
-        (busesOf kind.now vm_set.now pd.now qd.now pg.now qg.now
+    ensures { result ≡ counted (network_of
+        (buses_of kind.now vm_set.now pd.now qd.now pg.now qg.now
         vm_case.now va_case.now)
-        (slacksOf slacks.now va_slacks.now)
-        (generatorsOf gen_bus.now qmin.now qmax.now)
-        (branchesOf br_from.now br_to.now)
-        (tripletsOf y_row.now y_col.now y_re.now y_im.now)) }
+        (slacks_of slacks.now va_slacks.now)
+        (generators_of gen_bus.now qmin.now qmax.now)
+        (branches_of br_from.now br_to.now)
+        (triplets_of y_row.now y_col.now y_re.now y_im.now)) }
 {
     let b = buses_counted(kind, vm_set, pd, qd, pg, qg, vm_case, va_case);
     let r = slacks_counted(slacks, va_slacks);
@@ -148,7 +148,7 @@ pub fn values_counted(
     shift: &[f64],
     sw: &[f64],
 ) -> bool
-    ensures { result ≡ valuesCounted n
+    ensures { result ≡ values_counted n
         (values_of g.now b.now g_fr.now b_fr.now g_to.now b_to.now tap.now
         shift.now sw.now) }
 {
@@ -189,7 +189,7 @@ pub enum MissingBus {
 
 // The first row of a column whose bus is missing: its number is not below n.
 pub fn first_missing(n: usize, l: &[usize]) -> First
-    ensures { result ≡ firstBelow (length l.now) (busMissing n l.now) }
+    ensures { result ≡ first_below (length l.now) (bus_missing n l.now) }
 {
     let mut found = First::Nowhere;
     for i in 0..l.len() {
@@ -201,7 +201,7 @@ pub fn first_missing(n: usize, l: &[usize]) -> First
 // The same of rows that name two buses.
 fn first_missing_end(n: usize, a: &[usize], b: &[usize]) -> First
     requires { length b.now ≡ length a.now }
-    ensures { result ≡ firstBelow (length a.now) (endMissing n a.now b.now) }
+    ensures { result ≡ first_below (length a.now) (end_missing n a.now b.now) }
 {
     let mut found = First::Nowhere;
     for i in 0..a.len() {
@@ -212,7 +212,7 @@ fn first_missing_end(n: usize, a: &[usize], b: &[usize]) -> First
 
 // The first row at fault of a table whose rows name one bus.
 fn in_column(n: usize, table: Naming, l: &[usize]) -> MissingBus
-    ensures { result ≡ inColumn n table l.now }
+    ensures { result ≡ in_column n table l.now }
 {
     let found = first_missing(n, l);
     match found {
@@ -227,7 +227,7 @@ fn in_column(n: usize, table: Naming, l: &[usize]) -> MissingBus
 
 // The first field at fault of a row whose first bus number is this.
 fn first_field(n: usize, bus: usize) -> usize
-    ensures { result ≡ firstField n bus }
+    ensures { result ≡ first_field n bus }
 {
     if n <= bus { 0 } else { 1 }
 }
@@ -235,7 +235,7 @@ fn first_field(n: usize, bus: usize) -> usize
 // The first row at fault of a table whose rows name two.
 fn in_ends(n: usize, table: Naming, a: &[usize], b: &[usize]) -> MissingBus
     requires { length b.now ≡ length a.now }
-    ensures { result ≡ inEnds n table a.now b.now }
+    ensures { result ≡ in_ends n table a.now b.now }
 {
     let found = first_missing_end(n, a, b);
     match found {
@@ -250,7 +250,7 @@ fn in_ends(n: usize, table: Naming, a: &[usize], b: &[usize]) -> MissingBus
 
 // The one found, or else the next.
 fn or_next(found: MissingBus, next: MissingBus) -> MissingBus
-    ensures { result ≡ orNext found next }
+    ensures { result ≡ or_next found next }
 {
     match found {
         MissingBus::At { table, row, field } => MissingBus::At { table, row, field },
@@ -269,7 +269,7 @@ pub fn missing_bus(
     y_col: &[usize],
 ) -> MissingBus
     requires { (length br_to.now ≡ length br_from.now) × (length y_col.now ≡ length y_row.now) }
-    ensures { result ≡ missingBy n slacks.now gen_bus.now br_from.now br_to.now
+    ensures { result ≡ missing_by n slacks.now gen_bus.now br_from.now br_to.now
         y_row.now y_col.now }
 {
     let r = in_column(n, Naming::Slack, slacks);

@@ -4,10 +4,10 @@
 ghost use Rattle.std.specs.Prelude.{◌≡◌, ◌≤◌, length};
 ghost use Rattle.real.specs.Literals.{one};
 ghost use Rattle.linsolve.specs.Linear.{outcome};
-ghost use Rattle.network.specs.Network.{Triplets, tripletsOf};
+ghost use Rattle.network.specs.Network.{Triplets, triplets_of};
 ghost use Rattle.injections.specs.Injections.{GoodTriplets};
-ghost use Rattle.newton.specs.Step.{movedBy, step_of, unfitAt, unfitTo};
-ghost use Rattle.newton.specs.Newton.{Problem, problem, GoodProblem, measuredOf, sidesTo, directionOf, attemptOf, triesFrom, lastEnding, run, newtonOf};
+ghost use Rattle.newton.specs.Step.{moved_by, step_of, unfit_at, unfit_to};
+ghost use Rattle.newton.specs.Newton.{Problem, problem, GoodProblem, measured_of, sides_to, direction_of, attempt_of, tries_from, last_ending, run, newton_of};
 
 use injections::Phasors;
 use layout::{AcPfLayout, Point};
@@ -53,7 +53,7 @@ pub struct Ended {
 // x + alpha * dx, with dx as the solve left it; x where there is no column.
 fn moved(x: f64, c: usize, alpha: f64, w: &[f64]) -> f64
     requires { 4160 ≤ length w.now }
-    ensures { result ≡ movedBy x c alpha w.now }
+    ensures { result ≡ moved_by x c alpha w.now }
 {
     if c < 64 {
         let at = 4096 + c;
@@ -79,7 +79,7 @@ fn take_step(layout: AcPfLayout, p: Point, w: &[f64], alpha: f64) -> Point
 
 // A magnitude that is NaN or not above zero, or an angle that is NaN.
 fn unfit_at(m: f64, a: f64) -> bool
-    ensures { result ≡ unfitAt m a }
+    ensures { result ≡ unfit_at m a }
 {
     if real::is_nan(m) {
         return true;
@@ -92,7 +92,7 @@ fn unfit_at(m: f64, a: f64) -> bool
 
 fn unfit(n: usize, p: Point) -> bool
     requires { n ≤ 32 }
-    ensures { result ≡ unfitTo n p }
+    ensures { result ≡ unfit_to n p }
 {
     let mut bad = false;
     for b in 0..n {
@@ -116,9 +116,9 @@ fn measure(
     p: Point,
 ) -> Measured
     ghost g: { Problem }
-    requires qg_value { problem (tripletsOf y_row.now y_col.now y_re.now y_im.now) layout pd.now qd.now pg.now qg ≡ g }
+    requires qg_value { problem (triplets_of y_row.now y_col.now y_re.now y_im.now) layout pd.now qd.now pg.now qg ≡ g }
     requires good_problem { GoodProblem g }
-    ensures { result ≡ measuredOf g p }
+    ensures { result ≡ measured_of g p }
 {
     let n = layout.n;
     let dim = layout.dim;
@@ -143,7 +143,7 @@ fn measure(
 // The mismatch as the right side.
 fn load_sides(dim: usize, r: [f64; 64], w: &mut [f64])
     requires { (dim ≤ 64) × (4160 ≤ length w.old) }
-    ensures { w.new ≡ sidesTo dim r w.old }
+    ensures { w.new ≡ sides_to dim r w.old }
 {
     for k in 0..dim {
         let at = 4096 + k;
@@ -163,9 +163,9 @@ fn direction(
     w: &mut [f64],
 ) -> Solution
     ghost y: { Triplets }
-    requires y_im_value { tripletsOf y_row.now y_col.now y_re.now y_im.now ≡ y }
+    requires y_im_value { triplets_of y_row.now y_col.now y_re.now y_im.now ≡ y }
     requires good_triplets { GoodTriplets layout.n y × (layout.dim ≤ 64) × (4160 ≤ length w.old) }
-    ensures { outcome result w.new ≡ directionOf y layout va m w.old }
+    ensures { outcome result w.new ≡ direction_of y layout va m w.old }
 {
     let n = layout.n;
     let dim = layout.dim;
@@ -196,9 +196,9 @@ fn attempt(
     alpha: f64,
 ) -> Trial
     ghost g: { Problem }
-    requires qg_value { problem (tripletsOf y_row.now y_col.now y_re.now y_im.now) layout pd.now qd.now pg.now qg ≡ g }
+    requires qg_value { problem (triplets_of y_row.now y_col.now y_re.now y_im.now) layout pd.now qd.now pg.now qg ≡ g }
     requires good_problem { GoodProblem g × (4160 ≤ length w.now) }
-    ensures { result ≡ attemptOf (measuredOf g) layout p m w.now alpha }
+    ensures { result ≡ attempt_of (measured_of g) layout p m w.now alpha }
 {
     let n = layout.n;
     let t = take_step(layout, p, w, alpha);
@@ -240,9 +240,9 @@ fn search(
     w: &[f64],
 ) -> Trial
     ghost g: { Problem }
-    requires qg_value { problem (tripletsOf y_row.now y_col.now y_re.now y_im.now) layout pd.now qd.now pg.now qg ≡ g }
+    requires qg_value { problem (triplets_of y_row.now y_col.now y_re.now y_im.now) layout pd.now qd.now pg.now qg ≡ g }
     requires good_problem { GoodProblem g × (4160 ≤ length w.now) }
-    ensures { result ≡ triesFrom 12 (measuredOf g) layout p m w.now one }
+    ensures { result ≡ tries_from 12 (measured_of g) layout p m w.now one }
 {
     let mut alpha = 1.0;
     for k in 0usize..12 {
@@ -264,7 +264,7 @@ fn search(
 // ---- the steps
 
 fn last_ending(residual: f64) -> Ending
-    ensures { result ≡ lastEnding residual }
+    ensures { result ≡ last_ending residual }
 {
     if residual < TOL {
         Ending::Converged
@@ -288,9 +288,9 @@ pub fn newton(
     w: &mut [f64],
 ) -> Ended
     ghost g: { Problem }
-    requires qg_value { problem (tripletsOf y_row.now y_col.now y_re.now y_im.now) layout pd.now qd.now pg.now qg ≡ g }
+    requires qg_value { problem (triplets_of y_row.now y_col.now y_re.now y_im.now) layout pd.now qd.now pg.now qg ≡ g }
     requires good_problem { GoodProblem g × (4160 ≤ length w.old) }
-    ensures { run result w.new ≡ newtonOf g start w.old }
+    ensures { run result w.new ≡ newton_of g start w.old }
 {
     let mut p = start;
     let mut m = measure(y_row, y_col, y_re, y_im, layout, pd, qd, pg, qg, p);

@@ -4,10 +4,10 @@
 ghost use Rattle.std.specs.Prelude.{◌≡◌, ◌≤◌, length, get_or};
 ghost use Rattle.std.specs.Float.{nan};
 ghost use Rattle.layout.specs.Table.{stores};
-ghost use Rattle.real.specs.Paper.{isGiven};
-ghost use Rattle.network.specs.Network.{Triplets, tripletsOf};
+ghost use Rattle.real.specs.Paper.{is_given};
+ghost use Rattle.network.specs.Network.{Triplets, triplets_of};
 ghost use Rattle.injections.specs.Injections.{GoodTriplets};
-ghost use Rattle.outcome.specs.Outcome.{paperOf, Outs, outs, OnePerBus, lengthsOf, lengthsIn, roomy, rowRefusal, busRefusal, withAnswer, zeros, written, writeOf};
+ghost use Rattle.outcome.specs.Outcome.{paper_of, Outs, outs, OnePerBus, lengths_of, lengths_in, roomy, row_refusal, bus_refusal, with_answer, zeros, written, write_of};
 
 use layout::Point;
 use moves::KindAt;
@@ -33,7 +33,7 @@ pub enum Outcome {
 
 // Whether the tables were solved.
 pub fn solved(r: Outcome) -> bool
-    ensures { result ≡ isGiven (paperOf r) }
+    ensures { result ≡ is_given (paper_of r) }
 {
     match r {
         Outcome::Solved { .. } => true,
@@ -45,7 +45,7 @@ pub fn solved(r: Outcome) -> bool
 
 // Refusal 9, of the lengths of the answer columns and the workspace.
 pub fn roomy(n: usize, vm: usize, va: usize, p: usize, q: usize, kinds: usize, w: usize) -> bool
-    ensures { result ≡ roomy n (lengthsOf vm va p q kinds) w }
+    ensures { result ≡ roomy n (lengths_of vm va p q kinds) w }
 {
     real::and(
         n <= vm,
@@ -65,7 +65,7 @@ pub enum Checked {
 
 // The refusal of a row that names a missing bus, by its table: 8, 11, 12 or 13.
 fn row_refusal(table: Naming, row: usize, field: usize) -> Outcome
-    ensures { result ≡ rowRefusal table row field }
+    ensures { result ≡ row_refusal table row field }
 {
     match table {
         Naming::Slack => Outcome::Slack { row },
@@ -77,7 +77,7 @@ fn row_refusal(table: Naming, row: usize, field: usize) -> Outcome
 
 // The refusal of a missing bus, or none.
 pub fn bus_refusal(m: MissingBus) -> Checked
-    ensures { result ≡ busRefusal m }
+    ensures { result ≡ bus_refusal m }
 {
     match m {
         MissingBus::At { table, row, field } => Checked::Refused(row_refusal(table, row, field)),
@@ -122,9 +122,9 @@ fn write_answer(
     kinds: &mut [u8],
 )
     ghost { Triplets × Outs }
-    requires* kinds_value { λ α. ⌜ (tripletsOf y_row.now y_col.now y_re.now y_im.now, outs vm.old va.old p.old q.old kinds.old) ≡ α ⌝ }
-    requires* fact { λ (y, o). ⌜ GoodTriplets n y × OnePerBus n (lengthsIn o) ⌝ }
-    ensures* { λ (y, o) _. ⌜ outs vm.new va.new p.new q.new kinds.new ≡ withAnswer n y point kept o ⌝ }
+    requires* kinds_value { λ α. ⌜ (triplets_of y_row.now y_col.now y_re.now y_im.now, outs vm.old va.old p.old q.old kinds.old) ≡ α ⌝ }
+    requires* fact { λ (y, o). ⌜ GoodTriplets n y × OnePerBus n (lengths_in o) ⌝ }
+    ensures* { λ (y, o) _. ⌜ outs vm.new va.new p.new q.new kinds.new ≡ with_answer n y point kept o ⌝ }
 {
     let letters = moves::letters(n, kept);
     let vms = point.vm;
@@ -166,10 +166,10 @@ pub fn write(
     kinds: &mut [u8],
 ) -> Outcome
     ghost { Triplets × Outs }
-    requires* kinds_value { λ α. ⌜ (tripletsOf y_row.now y_col.now y_re.now y_im.now, outs vm.old va.old p.old q.old kinds.old) ≡ α ⌝ }
-    requires* fact { λ (y, o). ⌜ GoodTriplets n y × OnePerBus n (lengthsIn o) ⌝ }
-    ensures* { λ (y, o) r. ⌜ written (paperOf r) (outs vm.new va.new p.new q.new kinds.new)
-        ≡ writeOf n y found point kept o ⌝ }
+    requires* kinds_value { λ α. ⌜ (triplets_of y_row.now y_col.now y_re.now y_im.now, outs vm.old va.old p.old q.old kinds.old) ≡ α ⌝ }
+    requires* fact { λ (y, o). ⌜ GoodTriplets n y × OnePerBus n (lengths_in o) ⌝ }
+    ensures* { λ (y, o) r. ⌜ written (paper_of r) (outs vm.new va.new p.new q.new kinds.new)
+        ≡ write_of n y found point kept o ⌝ }
 {
     match found {
         AcPf::Solved {

@@ -7,10 +7,10 @@ ghost use Rattle.real.specs.Literals.{nought};
 ghost use Rattle.layout.specs.Table.{table};
 ghost use Rattle.qlim.specs.Rounds.{Study, study, GoodStudy};
 ghost use Rattle.starts.specs.References.{SlacksBelow};
-ghost use Rattle.pf_ac.specs.Search.{betterOf, firstStart, nthStart, startCount, searched, verdictOf, searchOf};
-ghost use Rattle.network.specs.Network.{Network, busesOf, slacksOf, generatorsOf, branchesOf, tripletsOf, networkOf};
+ghost use Rattle.pf_ac.specs.Search.{better_of, first_start, nth_start, start_count, searched, verdict_of, search_of};
+ghost use Rattle.network.specs.Network.{Network, buses_of, slacks_of, generators_of, branches_of, triplets_of, network_of};
 ghost use Rattle.network.specs.Checks.{WellIndexed};
-ghost use Rattle.pf_ac.specs.WithStart.{acPfOf};
+ghost use Rattle.pf_ac.specs.WithStart.{ac_pf_of};
 
 use layout::{BusKind, Limits, Point};
 use qlim::Settled;
@@ -43,7 +43,7 @@ fn first_start(
     flat: Point,
 ) -> Point
     requires { (n ≤ 32) × (n ≤ length vm_set.now) × (n ≤ length vm_case.now) × (n ≤ length va_case.now) × SlacksBelow n r }
-    ensures { result ≡ firstStart start n vm_set.now vm_case.now va_case.now r flat }
+    ensures { result ≡ first_start start n vm_set.now vm_case.now va_case.now r flat }
 {
     match start {
         AcStart::Flat => flat,
@@ -61,7 +61,7 @@ fn start_at(
     i: usize,
 ) -> Point
     requires { (n ≤ 32) × (i ≤ 32) }
-    ensures { result ≡ nthStart start n kinds first flat i }
+    ensures { result ≡ nth_start start n kinds first flat i }
 {
     if i == 0 {
         return first;
@@ -73,7 +73,7 @@ fn start_at(
 }
 
 fn start_count(start: AcStart) -> usize
-    ensures { (result ≡ startCount start) × (result ≤ 6) }
+    ensures { (result ≡ start_count start) × (result ≤ 6) }
 {
     match start {
         AcStart::Flat => 5,
@@ -85,7 +85,7 @@ fn start_count(start: AcStart) -> usize
 
 // The first is kept, then any that is no NaN and is smaller or follows a NaN.
 fn better(first: bool, best: f64, res: f64) -> bool
-    ensures { result ≡ betterOf first best res }
+    ensures { result ≡ better_of first best res }
 {
     if first {
         return true;
@@ -101,7 +101,7 @@ fn better(first: bool, best: f64, res: f64) -> bool
 
 // What the residual and the iterations of the result kept make of the search: solved, or not yet.
 fn verdict(residual: f64, iterations: usize, starts: usize) -> AcPf
-    ensures { result ≡ verdictOf residual iterations starts }
+    ensures { result ≡ verdict_of residual iterations starts }
 {
     if residual < TOL {
         return AcPf::Solved {
@@ -134,9 +134,9 @@ fn search(
     w: &mut [f64],
 ) -> Kept
     ghost s: { Study }
-    requires vm_hold_value { study n (tripletsOf y_row.now y_col.now y_re.now y_im.now) pd.now qd.now pg.now qg limits vm_hold ≡ s }
+    requires vm_hold_value { study n (triplets_of y_row.now y_col.now y_re.now y_im.now) pd.now qd.now pg.now qg limits vm_hold ≡ s }
     requires good_study { GoodStudy s × (4160 ≤ length w.old) }
-    ensures { searched result.found result.best w.new ≡ searchOf start s kinds first flat w.old }
+    ensures { searched result.found result.best w.new ≡ search_of start s kinds first flat w.old }
 {
     let count = start_count(start);
     let mut best = qlim::nothing(first);
@@ -200,14 +200,14 @@ pub fn ac_pf_with_start(
     w: &mut [f64],
 ) -> Kept
     ghost t: { Network }
-    requires y_im_value { networkOf
-        (busesOf kind.now vm_set.now pd.now qd.now pg.now qg.now vm_case.now va_case.now)
-        (slacksOf slacks.now va_slacks.now)
-        (generatorsOf gen_bus.now qmin.now qmax.now)
-        (branchesOf br_from.now br_to.now)
-        (tripletsOf y_row.now y_col.now y_re.now y_im.now) ≡ t }
+    requires y_im_value { network_of
+        (buses_of kind.now vm_set.now pd.now qd.now pg.now qg.now vm_case.now va_case.now)
+        (slacks_of slacks.now va_slacks.now)
+        (generators_of gen_bus.now qmin.now qmax.now)
+        (branches_of br_from.now br_to.now)
+        (triplets_of y_row.now y_col.now y_re.now y_im.now) ≡ t }
     requires well_indexed { WellIndexed t × (4160 ≤ length w.old) }
-    ensures { searched result.found result.best w.new ≡ acPfOf start t w.old }
+    ensures { searched result.found result.best w.new ≡ ac_pf_of start t w.old }
 {
     let n = kind.len();
     let kinds = layout::default_kinds(n, kind, slacks);

@@ -3,10 +3,10 @@
 #![tactic(auto)]
 
 ghost use Rattle.std.specs.Prelude.{◌≡◌, ◌≤◌, length};
-ghost use Rattle.network.specs.Network.{tripletsOf};
-ghost use Rattle.injections.specs.Injections.{injectedOf};
+ghost use Rattle.network.specs.Network.{triplets_of};
+ghost use Rattle.injections.specs.Injections.{injected_of};
 ghost use Rattle.moves.specs.Moves.{moves_of};
-ghost use Rattle.qlim.specs.Rounds.{Study, study, GoodStudy, nothing, settleOf, done, qlimOf};
+ghost use Rattle.qlim.specs.Rounds.{Study, study, GoodStudy, nothing, settle_of, done, qlim_of};
 
 use injections::{Column, Phasors};
 use layout::{AcPfLayout, BusKind, Limits, Point};
@@ -52,7 +52,7 @@ pub fn nothing(p: Point) -> Settled
 // Newton's end under these kinds and schedules, with a residual.
 fn settle(n: usize, kinds: [BusKind; 32], qsched: [f64; 32], e: Ended, residual: f64) -> Settled
     requires { n ≤ 32 }
-    ensures { result ≡ settleOf n kinds qsched e residual }
+    ensures { result ≡ settle_of n kinds qsched e residual }
 {
     Settled {
         ended: e,
@@ -73,7 +73,7 @@ fn moves_at_end(
     vm_hold: [f64; 32],
 ) -> [Move; 32]
     requires { (n ≤ 32) × (n ≤ length qd.now) }
-    ensures { result ≡ moves_of n kinds limits t qd.now (injectedOf n e.phasors).q e.point.vm vm_hold }
+    ensures { result ≡ moves_of n kinds limits t qd.now (injected_of n e.phasors).q e.point.vm vm_hold }
 {
     // Only a bus with a generator moves; without one no power is asked for.
     let has_gen = limits.has_gen;
@@ -107,9 +107,9 @@ pub fn solve_qlim(
     w: &mut [f64],
 ) -> Settled
     ghost s: { Study }
-    requires vm_hold_value { study n (tripletsOf y_row.now y_col.now y_re.now y_im.now) pd.now qd.now pg.now qg limits vm_hold ≡ s }
+    requires vm_hold_value { study n (triplets_of y_row.now y_col.now y_re.now y_im.now) pd.now qd.now pg.now qg limits vm_hold ≡ s }
     requires good_study { GoodStudy s × (4160 ≤ length w.old) }
-    ensures { done result w.new ≡ qlimOf s default start w.old }
+    ensures { done result w.new ≡ qlim_of s default start w.old }
 {
     let mut kinds = default;
     let mut t = Track {

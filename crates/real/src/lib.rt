@@ -5,9 +5,9 @@ ghost use Rattle.std.specs.Prelude.{◌≡◌, ◌||◌, ◌≤◌, min};
 ghost use Rattle.std.specs.Float.Ieee.{is_nan};
 ghost use Rattle.std.specs.Float.Ieee.Scale.{finite};
 ghost use Rattle.real.specs.Tests.{both};
-ghost use Rattle.real.specs.First.{earlier, ifAt};
+ghost use Rattle.real.specs.First.{earlier, if_at};
 ghost use Rattle.real.specs.Real.{absolute, max_of};
-ghost use Rattle.real.specs.Norm.{normOf};
+ghost use Rattle.real.specs.Norm.{norm_of};
 
 // Below this a mismatch counts as solved.
 pub const TOL: f64 = 1e-8;
@@ -68,7 +68,7 @@ pub enum First {
 
 // The number i where it passes.
 pub fn if_at(passes: bool, i: usize) -> First
-    ensures { result ≡ ifAt passes i }
+    ensures { result ≡ if_at passes i }
 {
     if passes { First::At(i) } else { First::Nowhere }
 }
@@ -109,7 +109,7 @@ pub fn max(a: f64, b: f64) -> f64
 // The norm of the first n places.
 pub fn inf_norm(n: usize, v: &[f64; 64]) -> f64
     requires { n ≤ 64 }
-    ensures { result ≡ normOf n v.now }
+    ensures { result ≡ norm_of n v.now }
 {
     let mut norm = 0.0;
     for i in 0..n {

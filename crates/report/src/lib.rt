@@ -4,10 +4,10 @@
 ghost use Rattle.std.specs.Prelude.{◌≤◌, length};
 ghost use Rattle.io.specs.Counts.{IsPrefixLen};
 ghost use Rattle.case_text.specs.Answer as Reader;
-ghost use Rattle.outcome.specs.Outcome.{outs, lengthsIn, OnePerBus, ok, paperOf};
-ghost use Rattle.answered.specs.TextAnswer.{busesIn, branchesIn, paperIn, Few};
+ghost use Rattle.outcome.specs.Outcome.{outs, lengths_in, OnePerBus, ok, paper_of};
+ghost use Rattle.answered.specs.TextAnswer.{buses_in, branches_in, paper_in, Few};
 ghost use Rattle.lines.specs.Lines.{Wrote};
-ghost use Rattle.report.specs.Report.{bufferSize, printedOf, refusalOf, reportOf, Reported};
+ghost use Rattle.report.specs.Report.{buffer_size, printed_of, refusal_of, report_of, Reported};
 
 use answered::Answered;
 use case_text::Reading;
@@ -20,8 +20,8 @@ pub const BUFFER: usize = 10240;
 
 // What is printed of a text that the reader refuses.
 fn put_reading(r: Reading, out: &mut [u8]) -> usize
-    requires { bufferSize ≤ length out.old }
-    ensures { Wrote out.old 0 (refusalOf (Reader.paperOf r)) result out.new × (result ≤ bufferSize) }
+    requires { buffer_size ≤ length out.old }
+    ensures { Wrote out.old 0 (refusal_of (Reader.paper_of r)) result out.new × (result ≤ buffer_size) }
 {
     match r {
         Reading::Good(_) => lines::put_bare(9, out),
@@ -49,9 +49,9 @@ fn put_solved(
     f: Flows,
     out: &mut [u8],
 ) -> usize
-    requires { let o = outs vm.now va.now p.now q.now kinds.now in (n ≤ 32) × (m ≤ 64) × OnePerBus n (lengthsIn o) × (bufferSize ≤ length out.old) }
+    requires { let o = outs vm.now va.now p.now q.now kinds.now in (n ≤ 32) × (m ≤ 64) × OnePerBus n (lengths_in o) × (buffer_size ≤ length out.old) }
     ensures { let o = outs vm.now va.now p.now q.now kinds.now in
-        Wrote out.old 0 (printedOf n m (ok iterations residual) o f) result out.new × (result ≤ bufferSize) }
+        Wrote out.old 0 (printed_of n m (ok iterations residual) o f) result out.new × (result ≤ buffer_size) }
 {
     let pf = f.pf;
     let qf = f.qf;
@@ -76,9 +76,9 @@ fn put_outcome(
     f: Flows,
     out: &mut [u8],
 ) -> usize
-    requires { let o = outs vm.now va.now p.now q.now kinds.now in (n ≤ 32) × (m ≤ 64) × OnePerBus n (lengthsIn o) × (bufferSize ≤ length out.old) }
+    requires { let o = outs vm.now va.now p.now q.now kinds.now in (n ≤ 32) × (m ≤ 64) × OnePerBus n (lengths_in o) × (buffer_size ≤ length out.old) }
     ensures { let o = outs vm.now va.now p.now q.now kinds.now in
-        Wrote out.old 0 (printedOf n m (paperOf r) o f) result out.new × (result ≤ bufferSize) }
+        Wrote out.old 0 (printed_of n m (paper_of r) o f) result out.new × (result ≤ buffer_size) }
 {
     match r {
         Outcome::Solved {
@@ -123,9 +123,9 @@ fn put_answer(
     f: Flows,
     out: &mut [u8],
 ) -> usize
-    requires { Few a × (bufferSize ≤ length out.old) }
+    requires { Few a × (buffer_size ≤ length out.old) }
     ensures { let o = outs vm.now va.now p.now q.now kinds.now in
-        Wrote out.old 0 (printedOf (busesIn a) (branchesIn a) (paperIn a) o f) result out.new × (result ≤ bufferSize) }
+        Wrote out.old 0 (printed_of (buses_in a) (branches_in a) (paper_in a) o f) result out.new × (result ≤ buffer_size) }
 {
     match a {
         Answered::Unread(r) => put_reading(r, out),
@@ -136,7 +136,7 @@ fn put_answer(
 // The report of a text. The buffer's first places, as many as are answered, hold it.
 #[unsafe(no_mangle)]
 pub extern "C" fn report(text: &[u8], out: &mut [u8; BUFFER], space: &mut [f64; 6144]) -> usize
-    ensures reported { Reported (reportOf text.now space.old) out.old result out.new space.new }
+    ensures reported { Reported (report_of text.now space.old) out.old result out.new space.new }
     ensures prefix_len { IsPrefixLen result out.new }
 {
     let mut vm = [0.0; 32];

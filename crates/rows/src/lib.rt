@@ -4,9 +4,9 @@
 ghost use Rattle.std.specs.Prelude.{◌≡◌, ◌≤◌, length};
 ghost use Rattle.std.proofs.Math.Seq.{slice};
 ghost use Rattle.fields.specs.Cut.{pieces};
-ghost use Rattle.rows.specs.Asked.{sectionLetter, fieldCount, size_of, endsFirst, wantOf, goodOf};
-ghost use Rattle.rows.specs.Line.{spacedOf, form_of, fields_of, line_of};
-ghost use Rattle.rows.specs.Rows.{checkOf};
+ghost use Rattle.rows.specs.Asked.{section_letter, field_count, size_of, ends_first, want_of, good_of};
+ghost use Rattle.rows.specs.Line.{spaced_of, form_of, fields_of, line_of};
+ghost use Rattle.rows.specs.Rows.{check_of};
 
 // The sections of a case text, of either edition.
 #[derive(Drop)]
@@ -38,7 +38,7 @@ pub enum Check {
 }
 
 fn letter(z: Section) -> u8
-    ensures { result ≡ sectionLetter z }
+    ensures { result ≡ section_letter z }
 {
     match z {
         Section::B => b'B',
@@ -51,7 +51,7 @@ fn letter(z: Section) -> u8
 }
 
 fn count(z: Section) -> usize
-    ensures { result ≡ fieldCount z }
+    ensures { result ≡ field_count z }
 {
     match z {
         Section::B => 8,
@@ -78,7 +78,7 @@ fn size(z: Section) -> usize
 
 // Of a line that begins with two bus numbers.
 fn ends_first(j: usize) -> Want
-    ensures { result ≡ endsFirst j }
+    ensures { result ≡ ends_first j }
 {
     if 2 <= j {
         return Want::Plain;
@@ -88,7 +88,7 @@ fn ends_first(j: usize) -> Want
 
 // What field j holds, counted from 0.
 fn wanted(z: Section, j: usize) -> Want
-    ensures { result ≡ wantOf z j }
+    ensures { result ≡ want_of z j }
 {
     match z {
         Section::B => {
@@ -121,7 +121,7 @@ fn wanted(z: Section, j: usize) -> Want
 // Whether the field is what w asks.
 fn good(s: &[u8], a: usize, e: usize, w: Want) -> bool
     requires { (a ≤ e) × (e ≤ length s.now) }
-    ensures { result ≡ goodOf w (slice a e s.now) }
+    ensures { result ≡ good_of w (slice a e s.now) }
 {
     match w {
         Want::Plain => fields::is_real(fields::read_real(s, a, e)),
@@ -139,7 +139,7 @@ fn good(s: &[u8], a: usize, e: usize, w: Want) -> bool
 // Whether n fields stand there, none empty, with one space between.
 fn spaced(s: &[u8], a: usize, e: usize, n: usize) -> bool
     requires { (a ≤ e) × (e ≤ length s.now) }
-    ensures { result ≡ spacedOf 0 n (pieces 32 (slice a e s.now)) }
+    ensures { result ≡ spaced_of 0 n (pieces 32 (slice a e s.now)) }
 {
     let mut i = a;
     let mut k: usize = 0;
@@ -206,7 +206,7 @@ fn check_line(s: &[u8], a: usize, e: usize, z: Section) -> Check
 // A section, line by line: 6, then 4, then 5.
 pub fn check_section(s: &[u8], a: usize, e: usize, z: Section) -> Check
     requires { (a ≤ e) × (e ≤ length s.now) }
-    ensures { result ≡ checkOf z a (slice a e s.now) }
+    ensures { result ≡ check_of z a (slice a e s.now) }
 {
     let mut i = a;
     let mut r: usize = 0;

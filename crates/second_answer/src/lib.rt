@@ -2,13 +2,13 @@
 #![tactic(auto)]
 
 ghost use Rattle.std.specs.Prelude.{◌≡◌, List, Float};
-ghost use Rattle.network.specs.Network.{busesOf, slacksOf, generatorsOf, branchesOf};
-ghost use Rattle.network.specs.BranchTable.{BranchNetwork, values_of, branchTableOf, branchNetworkOf, RoomForBranches, firstBranchRows};
-ghost use Rattle.outcome.specs.Outcome.{Outs, outs, paperOf};
+ghost use Rattle.network.specs.Network.{buses_of, slacks_of, generators_of, branches_of};
+ghost use Rattle.network.specs.BranchTable.{BranchNetwork, values_of, branch_table_of, branch_network_of, RoomForBranches, first_branch_rows};
+ghost use Rattle.outcome.specs.Outcome.{Outs, outs, paper_of};
 ghost use Rattle.tables.specs.Tables.{answer};
-ghost use Rattle.branch_tables.specs.BranchTables.{branchAnswer, solveBranchesOf};
-ghost use Rattle.flows.specs.Flows.{blankFlows};
-ghost use Rattle.answered.specs.TextAnswer.{answeredWith, Few, secondAnswer};
+ghost use Rattle.branch_tables.specs.BranchTables.{branch_answer, solve_branches_of};
+ghost use Rattle.flows.specs.Flows.{blank_flows};
+ghost use Rattle.answered.specs.TextAnswer.{answered_with, Few, second_answer};
 
 use answered::{Answered, FlowAnswer};
 use case_text::Reading;
@@ -61,11 +61,11 @@ fn solve_branch_rows(
 ) -> Found
     ghost { BranchNetwork × Outs × List Float }
     requires* w_value { λ α. ⌜ (
-      branchNetworkOf
-          (busesOf kind vm_set pd qd pg qg vm_case va_case)
-          (slacksOf slacks va_slacks)
-          (generatorsOf gen_bus qmin qmax)
-          (branchTableOf (branchesOf from to)
+      branch_network_of
+          (buses_of kind vm_set pd qd pg qg vm_case va_case)
+          (slacks_of slacks va_slacks)
+          (generators_of gen_bus qmin qmax)
+          (branch_table_of (branches_of from to)
           (values_of g b g_fr b_fr g_to b_to tap shift sw)),
       outs vm.old va.old p.old q.old kinds.old,
       w.old,
@@ -73,7 +73,7 @@ fn solve_branch_rows(
     requires* fact { λ (t, o, space). ⌜ RoomForBranches rows t ⌝ }
     ensures* { λ (t, o, space) r.
         let e = outs vm.new va.new p.new q.new kinds.new in
-        ⌜ branchAnswer (answer (paperOf r.outcome) e w.new) r.flows ≡ solveBranchesOf start (firstBranchRows rows t) o blankFlows space ⌝ }
+        ⌜ branch_answer (answer (paper_of r.outcome) e w.new) r.flows ≡ solve_branches_of start (first_branch_rows rows t) o blank_flows space ⌝ }
 {
     let n = rows.buses;
     let r = rows.slacks;
@@ -146,7 +146,7 @@ pub fn answer_second(
 ) -> FlowAnswer
     ensures { let o = outs vm.old va.old p.old q.old kinds.old in
         let e = outs vm.new va.new p.new q.new kinds.new in
-        (answeredWith result.answered e result.flows w.new ≡ secondAnswer text.now o w.old) × Few result.answered }
+        (answered_with result.answered e result.flows w.new ≡ second_answer text.now o w.old) × Few result.answered }
 {
     let mut kind = [0u8; 32];
     let mut vm_set = [0.0; 32];

@@ -4,8 +4,8 @@
 ghost use Rattle.std.specs.Prelude.{◌≡◌, ◌≤◌, ◌<◌, length};
 ghost use Rattle.network.specs.Below.{Below};
 ghost use Rattle.islands.specs.Islands.{Ends};
-ghost use Rattle.starts.specs.References.{Numbered, SlacksBelow, byIsland, referencesOf};
-ghost use Rattle.starts.specs.Starts.{finiteOr, magnitudeFor, slackAngle, angleFor, case_of, flatOf, nudged, scaled, perturbedOf, fromFlat};
+ghost use Rattle.starts.specs.References.{Numbered, SlacksBelow, by_island, references_of};
+ghost use Rattle.starts.specs.Starts.{finite_or, magnitude_for, slack_angle, angle_for, case_of, flat_of, nudged, scaled, perturbed_of, from_flat};
 
 use layout::{BusKind, Point};
 
@@ -30,7 +30,7 @@ const NO_SLACK: usize = 32;
 // The reference of each island, by its label: the later slack row sets it.
 fn by_island(slacks: &[usize], va_slacks: &[f64], labels: [usize; 32]) -> References
     requires { (length va_slacks.now ≡ length slacks.now) × Below 32 slacks.now × Numbered slacks.now labels }
-    ensures { result ≡ byIsland slacks.now va_slacks.now labels }
+    ensures { result ≡ by_island slacks.now va_slacks.now labels }
 {
     let mut slack = [NO_SLACK; 32];
     let mut va = [0.0; 32];
@@ -52,7 +52,7 @@ pub fn island_references(
     br_to: &[usize],
 ) -> References
     requires { (n ≤ 32) × (length va_slacks.now ≡ length slacks.now) × Below n slacks.now × Ends n br_from.now br_to.now }
-    ensures { result ≡ referencesOf n slacks.now va_slacks.now br_from.now br_to.now }
+    ensures { result ≡ references_of n slacks.now va_slacks.now br_from.now br_to.now }
 {
     let labels = islands::dense_islands(n, br_from, br_to);
     let island = by_island(slacks, va_slacks, labels);
@@ -70,7 +70,7 @@ pub fn island_references(
 
 pub fn flat_start(n: usize, vm_set: &[f64], r: References) -> Point
     requires { (n ≤ 32) × (n ≤ length vm_set.now) }
-    ensures { result ≡ flatOf n vm_set.now r }
+    ensures { result ≡ flat_of n vm_set.now r }
 {
     let mut vm = [0.0; 32];
     let mut va = [0.0; 32];
@@ -84,14 +84,14 @@ pub fn flat_start(n: usize, vm_set: &[f64], r: References) -> Point
 // ---- the case start
 
 fn finite_or(x: f64) -> f64
-    ensures { result ≡ finiteOr x }
+    ensures { result ≡ finite_or x }
 {
     if real::is_finite(x) { x } else { 0.0 }
 }
 
 // The stored magnitude where it is one, else the set one.
 fn magnitude_for(stored: f64, set: f64) -> f64
-    ensures { result ≡ magnitudeFor stored set }
+    ensures { result ≡ magnitude_for stored set }
 {
     if real::is_finite(stored) {
         if stored > 0.0 {
@@ -104,7 +104,7 @@ fn magnitude_for(stored: f64, set: f64) -> f64
 
 fn slack_angle(va_case: &[f64], slack: usize) -> f64
     requires { slack < 32 → slack < length va_case.now }
-    ensures { result ≡ slackAngle va_case.now slack }
+    ensures { result ≡ slack_angle va_case.now slack }
 {
     if slack < NO_SLACK {
         return finite_or(va_case[slack]);
@@ -113,7 +113,7 @@ fn slack_angle(va_case: &[f64], slack: usize) -> f64
 }
 
 fn angle_for(reference: f64, stored: f64, slack: f64) -> f64
-    ensures { result ≡ angleFor reference stored slack }
+    ensures { result ≡ angle_for reference stored slack }
 {
     reference + finite_or(stored - slack)
 }
@@ -165,7 +165,7 @@ fn scale(k: BusKind, x: f64, bus: usize, r: usize) -> f64
 // The free unknowns moved: up to 0.1 rad, up to 3 percent.
 fn perturbed(n: usize, kinds: [BusKind; 32], flat: Point, r: usize) -> Point
     requires { (n ≤ 32) × (r ≤ 32) }
-    ensures { result ≡ perturbedOf n kinds flat r }
+    ensures { result ≡ perturbed_of n kinds flat r }
 {
     let mut vm = [0.0; 32];
     let mut va = [0.0; 32];
@@ -180,7 +180,7 @@ fn perturbed(n: usize, kinds: [BusKind; 32], flat: Point, r: usize) -> Point
 // The flat start, then its perturbations.
 pub fn from_flat(n: usize, kinds: [BusKind; 32], flat: Point, i: usize) -> Point
     requires { (n ≤ 32) × (i ≤ 32) }
-    ensures { result ≡ fromFlat n kinds flat i }
+    ensures { result ≡ from_flat n kinds flat i }
 {
     if i == 0 {
         return flat;

@@ -2,10 +2,10 @@
 #![tactic(auto)]
 
 ghost use Rattle.std.specs.Prelude.{◌≡◌, ◌≤◌, length, List, Float};
-ghost use Rattle.network.specs.Network.{Network, busCount, busesOf, slacksOf, generatorsOf, branchesOf, tripletsOf, networkOf};
+ghost use Rattle.network.specs.Network.{Network, bus_count, buses_of, slacks_of, generators_of, branches_of, triplets_of, network_of};
 ghost use Rattle.network.specs.Checks.{WellIndexed};
-ghost use Rattle.outcome.specs.Outcome.{paperOf, Outs, outs, OnePerBus, lengthsOf, lengthsIn};
-ghost use Rattle.tables.specs.Tables.{checkedOf, ran, run_of, answer, afterRun, solveOf};
+ghost use Rattle.outcome.specs.Outcome.{paper_of, Outs, outs, OnePerBus, lengths_of, lengths_in};
+ghost use Rattle.tables.specs.Tables.{checked_of, ran, run_of, answer, after_run, solve_of};
 
 use outcome::{Checked, Outcome};
 use pf_ac::Kept;
@@ -39,13 +39,13 @@ pub fn check(
     kinds: usize,
     w: usize,
 ) -> Checked
-    ensures { let t = networkOf
-        (busesOf kind.now vm_set.now pd.now qd.now pg.now qg.now vm_case.now va_case.now)
-        (slacksOf slacks.now va_slacks.now)
-        (generatorsOf gen_bus.now qmin.now qmax.now)
-        (branchesOf br_from.now br_to.now)
-        (tripletsOf y_row.now y_col.now y_re.now y_im.now) in
-        result ≡ checkedOf t (lengthsOf vm va p q kinds) w }
+    ensures { let t = network_of
+        (buses_of kind.now vm_set.now pd.now qd.now pg.now qg.now vm_case.now va_case.now)
+        (slacks_of slacks.now va_slacks.now)
+        (generators_of gen_bus.now qmin.now qmax.now)
+        (branches_of br_from.now br_to.now)
+        (triplets_of y_row.now y_col.now y_re.now y_im.now) in
+        result ≡ checked_of t (lengths_of vm va p q kinds) w }
 {
     if !network::counted(
         kind, vm_set, pd, qd, pg, qg, vm_case, va_case, slacks, va_slacks, gen_bus, qmin, qmax,
@@ -86,12 +86,12 @@ pub fn run(
 ) -> Kept
     ghost { Network × List Float }
     requires* w_value { λ α. ⌜ (
-      networkOf
-          (busesOf kind.now vm_set.now pd.now qd.now pg.now qg.now vm_case.now va_case.now)
-          (slacksOf slacks.now va_slacks.now)
-          (generatorsOf gen_bus.now qmin.now qmax.now)
-          (branchesOf br_from.now br_to.now)
-          (tripletsOf y_row.now y_col.now y_re.now y_im.now),
+      network_of
+          (buses_of kind.now vm_set.now pd.now qd.now pg.now qg.now vm_case.now va_case.now)
+          (slacks_of slacks.now va_slacks.now)
+          (generators_of gen_bus.now qmin.now qmax.now)
+          (branches_of br_from.now br_to.now)
+          (triplets_of y_row.now y_col.now y_re.now y_im.now),
       w.old,
     ) ≡ α ⌝ }
     requires* fact { λ (t, space). ⌜ WellIndexed t × (6144 ≤ length space) ⌝ }
@@ -136,19 +136,19 @@ pub fn solve_ready(
 ) -> Outcome
     ghost { Network × Outs × List Float }
     requires* w_value { λ α. ⌜ (
-      networkOf
-          (busesOf kind.now vm_set.now pd.now qd.now pg.now qg.now vm_case.now va_case.now)
-          (slacksOf slacks.now va_slacks.now)
-          (generatorsOf gen_bus.now qmin.now qmax.now)
-          (branchesOf br_from.now br_to.now)
-          (tripletsOf y_row.now y_col.now y_re.now y_im.now),
+      network_of
+          (buses_of kind.now vm_set.now pd.now qd.now pg.now qg.now vm_case.now va_case.now)
+          (slacks_of slacks.now va_slacks.now)
+          (generators_of gen_bus.now qmin.now qmax.now)
+          (branches_of br_from.now br_to.now)
+          (triplets_of y_row.now y_col.now y_re.now y_im.now),
       outs vm.old va.old p.old q.old kinds.old,
       w.old,
     ) ≡ α ⌝ }
-    requires* fact { λ (t, o, space). ⌜ WellIndexed t × OnePerBus (busCount t) (lengthsIn o) × (6144 ≤ length space) ⌝ }
+    requires* fact { λ (t, o, space). ⌜ WellIndexed t × OnePerBus (bus_count t) (lengths_in o) × (6144 ≤ length space) ⌝ }
     ensures* { λ (t, o, space) r.
         let e = outs vm.new va.new p.new q.new kinds.new in
-        ⌜ answer (paperOf r) e w.new ≡ afterRun t o (run_of start t space) ⌝ }
+        ⌜ answer (paper_of r) e w.new ≡ after_run t o (run_of start t space) ⌝ }
 {
     let n = kind.len();
     let r = run(
@@ -193,15 +193,15 @@ pub fn solve(
     kinds: &mut [u8],
     w: &mut [f64],
 ) -> Outcome
-    ensures { let t = networkOf
-        (busesOf kind.now vm_set.now pd.now qd.now pg.now qg.now vm_case.now va_case.now)
-        (slacksOf slacks.now va_slacks.now)
-        (generatorsOf gen_bus.now qmin.now qmax.now)
-        (branchesOf br_from.now br_to.now)
-        (tripletsOf y_row.now y_col.now y_re.now y_im.now) in
+    ensures { let t = network_of
+        (buses_of kind.now vm_set.now pd.now qd.now pg.now qg.now vm_case.now va_case.now)
+        (slacks_of slacks.now va_slacks.now)
+        (generators_of gen_bus.now qmin.now qmax.now)
+        (branches_of br_from.now br_to.now)
+        (triplets_of y_row.now y_col.now y_re.now y_im.now) in
         let o = outs vm.old va.old p.old q.old kinds.old in
         let e = outs vm.new va.new p.new q.new kinds.new in
-        answer (paperOf result) e w.new ≡ solveOf start t o w.old }
+        answer (paper_of result) e w.new ≡ solve_of start t o w.old }
 {
     let c = check(
         kind,

@@ -4,14 +4,14 @@
 
 ghost use Rattle.std.specs.Prelude.{◌≡◌, ◌+◌, ◌*◌, ◌≤◌, ◌<◌, take};
 ghost use Rattle.vectors.specs.Words.{pair_of, Tells, Found};
-ghost use Rattle.network.specs.Network.{busesOf, slacksOf, generatorsOf, branchesOf, tripletsOf, firstBuses, firstSlacks, firstGenerators, firstBranches, firstTriplets};
-ghost use Rattle.network.specs.BranchTable.{values_of, branchTableOf, firstValues};
-ghost use Rattle.trailer.specs.Trailer.{flatLetter, mode_of};
+ghost use Rattle.network.specs.Network.{buses_of, slacks_of, generators_of, branches_of, triplets_of, first_buses, first_slacks, first_generators, first_branches, first_triplets};
+ghost use Rattle.network.specs.BranchTable.{values_of, branch_table_of, first_values};
+ghost use Rattle.trailer.specs.Trailer.{flat_letter, mode_of};
 ghost use Rattle.real.specs.Paper.{given};
-ghost use Rattle.case_text.specs.Answer.{paperOf};
-ghost use Rattle.reader.specs.Reader.{columnsOf, read_of};
-ghost use Rattle.text_vectors.specs.Told.{numberIn, place_of, refusal, rowsIn, branchRows, tripletRows, rowsTold, editionBy, paperTold, widthTold, wordTold, numbersTold, realsTold};
-ghost use Rattle.text_vectors.specs.Told.{busesTold, slacksTold, generatorsTold, branchesTold, tripletsTold, valuesTold, networkMarks, Agrees, tableIn, RestAgrees};
+ghost use Rattle.case_text.specs.Answer.{paper_of};
+ghost use Rattle.reader.specs.Reader.{columns_of, read_of};
+ghost use Rattle.text_vectors.specs.Told.{number_in, place_of, refusal, rows_in, branch_rows, triplet_rows, rows_told, edition_by, paper_told, width_told, word_told, numbers_told, reals_told};
+ghost use Rattle.text_vectors.specs.Told.{buses_told, slacks_told, generators_told, branches_told, triplets_told, values_told, network_marks, Agrees, table_in, RestAgrees};
 
 use libc::STDIN_FILENO;
 use starts::AcStart;
@@ -21,14 +21,14 @@ use trailer::Edition;
 
 fn rows(s: &[u8; 600000], j: usize) -> usize
     requires { j < 30 }
-    ensures { (result ≡ rowsIn s.now j) × (result < 65536) }
+    ensures { (result ≡ rows_in s.now j) × (result < 65536) }
 {
     vectors::pair(s, 10 + j * 4)
 }
 
 // How many places of each column are lent: as many as the record asks, so that refusal 9 can be met.
 fn width(s: &[u8; 600000]) -> usize
-    ensures { (result ≡ widthTold s.now) × (result ≤ 258) }
+    ensures { (result ≡ width_told s.now) × (result ≤ 258) }
 {
     real::least(vectors::pair(s, 6), 258)
 }
@@ -36,7 +36,7 @@ fn width(s: &[u8; 600000]) -> usize
 // What the input says of place i of column j.
 fn told(s: &[u8; 600000], j: usize, i: usize) -> u64
     requires { j < 30 }
-    ensures { result ≡ wordTold s.now j i }
+    ensures { result ≡ word_told s.now j i }
 {
     let k = real::least(i, rows(s, j));
     vectors::word(s, vectors::pair(s, 8 + j * 4) + k * 8)
@@ -45,7 +45,7 @@ fn told(s: &[u8; 600000], j: usize, i: usize) -> u64
 // Whether a column's lent places hold what the input says; one function for each type of element.
 fn kinds(s: &[u8; 600000], j: usize, col: [u8; 258]) -> bool
     requires { j < 30 }
-    ensures { Tells result (take (widthTold s.now) col ≡ numbersTold s.now j) }
+    ensures { Tells result (take (width_told s.now) col ≡ numbers_told s.now j) }
 {
     let n = width(s);
     let mut i = 0;
@@ -60,7 +60,7 @@ fn kinds(s: &[u8; 600000], j: usize, col: [u8; 258]) -> bool
 
 fn numbers(s: &[u8; 600000], j: usize, col: [usize; 258]) -> bool
     requires { j < 30 }
-    ensures { Tells result (take (widthTold s.now) col ≡ numbersTold s.now j) }
+    ensures { Tells result (take (width_told s.now) col ≡ numbers_told s.now j) }
 {
     let n = width(s);
     let mut i = 0;
@@ -75,7 +75,7 @@ fn numbers(s: &[u8; 600000], j: usize, col: [usize; 258]) -> bool
 
 fn reals(s: &[u8; 600000], j: usize, col: [f64; 258]) -> bool
     requires { j < 30 }
-    ensures { Tells result (take (widthTold s.now) col ≡ realsTold s.now j) }
+    ensures { Tells result (take (width_told s.now) col ≡ reals_told s.now j) }
 {
     let n = width(s);
     let mut i = 0;
@@ -90,7 +90,7 @@ fn reals(s: &[u8; 600000], j: usize, col: [f64; 258]) -> bool
 
 // The refusal's number, and 0 of a good answer.
 fn number(r: case_text::Reading) -> usize
-    ensures { result ≡ numberIn (paperOf r) }
+    ensures { result ≡ number_in (paper_of r) }
 {
     match r {
         case_text::Reading::Good(_) => 0,
@@ -106,7 +106,7 @@ fn number(r: case_text::Reading) -> usize
 
 // The refusal's place, and 0 where it has none.
 fn place(r: case_text::Reading) -> usize
-    ensures { result ≡ place_of (paperOf r) }
+    ensures { result ≡ place_of (paper_of r) }
 {
     match r {
         case_text::Reading::Good(_) => 0,
@@ -123,7 +123,7 @@ fn place(r: case_text::Reading) -> usize
 // Whether the input says this refusal. Refusal 9 has no place.
 fn refused(s: &[u8; 600000], n: usize, at: usize) -> bool
     requires { 0 < n }
-    ensures { Tells result (refusal n at ≡ paperTold s.now) }
+    ensures { Tells result (refusal n at ≡ paper_told s.now) }
 {
     if vectors::pair(s, 0) != n {
         return false;
@@ -136,7 +136,7 @@ fn refused(s: &[u8; 600000], n: usize, at: usize) -> bool
 
 // Whether a letter of the trailer is of this edition: the second has f and c.
 fn editions(e: Edition, letter: usize) -> bool
-    ensures { Tells result (e ≡ editionBy letter) }
+    ensures { Tells result (e ≡ edition_by letter) }
 {
     let second = (letter == 102) | (letter == 99);
     let Edition::First = e else {
@@ -146,7 +146,7 @@ fn editions(e: Edition, letter: usize) -> bool
 }
 
 fn flat_letter(e: Edition) -> usize
-    ensures { result ≡ flatLetter e }
+    ensures { result ≡ flat_letter e }
 {
     match e {
         Edition::First => 70,
@@ -165,7 +165,7 @@ fn starts(m: AcStart, e: Edition, letter: usize) -> bool
 }
 
 fn branch_rows(s: &[u8; 600000], e: Edition) -> usize
-    ensures { result ≡ branchRows e s.now }
+    ensures { result ≡ branch_rows e s.now }
 {
     match e {
         Edition::First => rows(s, 13),
@@ -174,7 +174,7 @@ fn branch_rows(s: &[u8; 600000], e: Edition) -> usize
 }
 
 fn triplet_rows(s: &[u8; 600000], e: Edition) -> usize
-    ensures { result ≡ tripletRows e s.now }
+    ensures { result ≡ triplet_rows e s.now }
 {
     match e {
         Edition::First => rows(s, 15),
@@ -184,7 +184,7 @@ fn triplet_rows(s: &[u8; 600000], e: Edition) -> usize
 
 // Whether the input says these rows: a table's are those of its first column.
 fn rows_agree(s: &[u8; 600000], e: Edition, r: network::Rows) -> bool
-    ensures { Tells result (r ≡ rowsTold e s.now) }
+    ensures { Tells result (r ≡ rows_told e s.now) }
 {
     (r.buses == rows(s, 0))
         & (r.slacks == rows(s, 8))
@@ -194,7 +194,7 @@ fn rows_agree(s: &[u8; 600000], e: Edition, r: network::Rows) -> bool
 }
 
 fn good(s: &[u8; 600000], c: case_text::Contents) -> bool
-    ensures { Tells result (given c ≡ paperTold s.now) }
+    ensures { Tells result (given c ≡ paper_told s.now) }
 {
     let e = c.edition;
     let m = c.start;
@@ -204,7 +204,7 @@ fn good(s: &[u8; 600000], c: case_text::Contents) -> bool
 }
 
 fn answered(s: &[u8; 600000], v: case_text::Reading) -> bool
-    ensures { Tells result (paperOf v ≡ paperTold s.now) }
+    ensures { Tells result (paper_of v ≡ paper_told s.now) }
 {
     let case_text::Reading::Good(c) = v else {
         return refused(s, number(v), place(v));
@@ -225,9 +225,9 @@ fn buses_agree(
     vm_case: [f64; 258],
     va_case: [f64; 258],
 ) -> bool
-    ensures { let m = widthTold s.now in
-        let t = busesOf kind vm_set pd qd pg qg vm_case va_case in
-        Tells result (firstBuses m t ≡ busesTold s.now) }
+    ensures { let m = width_told s.now in
+        let t = buses_of kind vm_set pd qd pg qg vm_case va_case in
+        Tells result (first_buses m t ≡ buses_told s.now) }
 {
     kinds(s, 0, kind)
         & reals(s, 1, vm_set)
@@ -240,8 +240,8 @@ fn buses_agree(
 }
 
 fn slacks_agree(s: &[u8; 600000], slacks: [usize; 258], va_slacks: [f64; 258]) -> bool
-    ensures { let m = widthTold s.now in
-        Tells result (firstSlacks m (slacksOf slacks va_slacks) ≡ slacksTold s.now) }
+    ensures { let m = width_told s.now in
+        Tells result (first_slacks m (slacks_of slacks va_slacks) ≡ slacks_told s.now) }
 {
     numbers(s, 8, slacks) & reals(s, 9, va_slacks)
 }
@@ -252,8 +252,8 @@ fn generators_agree(
     qmin: [f64; 258],
     qmax: [f64; 258],
 ) -> bool
-    ensures { let m = widthTold s.now in
-        Tells result (firstGenerators m (generatorsOf gen_bus qmin qmax) ≡ generatorsTold s.now) }
+    ensures { let m = width_told s.now in
+        Tells result (first_generators m (generators_of gen_bus qmin qmax) ≡ generators_told s.now) }
 {
     numbers(s, 10, gen_bus) & reals(s, 11, qmin) & reals(s, 12, qmax)
 }
@@ -261,8 +261,8 @@ fn generators_agree(
 // The ends of the lines L or K: j is the first of their two columns.
 fn branches_agree(s: &[u8; 600000], j: usize, from: [usize; 258], to: [usize; 258]) -> bool
     requires { j + 1 < 30 }
-    ensures { let m = widthTold s.now in
-        Tells result (firstBranches m (branchesOf from to) ≡ branchesTold s.now j) }
+    ensures { let m = width_told s.now in
+        Tells result (first_branches m (branches_of from to) ≡ branches_told s.now j) }
 {
     numbers(s, j, from) & numbers(s, j + 1, to)
 }
@@ -274,8 +274,8 @@ fn triplets_agree(
     y_re: [f64; 258],
     y_im: [f64; 258],
 ) -> bool
-    ensures { let m = widthTold s.now in
-        Tells result (firstTriplets m (tripletsOf y_row y_col y_re y_im) ≡ tripletsTold s.now) }
+    ensures { let m = width_told s.now in
+        Tells result (first_triplets m (triplets_of y_row y_col y_re y_im) ≡ triplets_told s.now) }
 {
     numbers(s, 15, y_row) & numbers(s, 16, y_col) & reals(s, 17, y_re) & reals(s, 18, y_im)
 }
@@ -292,9 +292,9 @@ fn values_agree(
     shift: [f64; 258],
     sw: [f64; 258],
 ) -> bool
-    ensures { let m = widthTold s.now in
+    ensures { let m = width_told s.now in
         let t = values_of g b g_fr b_fr g_to b_to tap shift sw in
-        Tells result (firstValues m t ≡ valuesTold s.now) }
+        Tells result (first_values m t ≡ values_told s.now) }
 {
     reals(s, 21, g)
         & reals(s, 22, b)
@@ -325,12 +325,12 @@ fn rest_agrees(
     shift: &mut [f64],
     sw: &mut [f64],
 ) -> bool
-    ensures { let old = branchTableOf (branchesOf from.old to.old)
+    ensures { let old = branch_table_of (branches_of from.old to.old)
         (values_of g.old b.old g_fr.old b_fr.old g_to.old b_to.old tap.old shift.old sw.old) in
-        let new = branchTableOf (branchesOf from.new to.new)
+        let new = branch_table_of (branches_of from.new to.new)
         (values_of g.new b.new g_fr.new b_fr.new g_to.new b_to.new tap.new shift.new sw.new) in
-        let o = read_of text.now (columnsOf (networkMarks (widthTold s.now)) old) in
-        Tells result (RestAgrees s.now o) × (tableIn o ≡ new) }
+        let o = read_of text.now (columns_of (network_marks (width_told s.now)) old) in
+        Tells result (RestAgrees s.now o) × (table_in o ≡ new) }
 {
     let m = width(s);
     let mut kind = [251u8; 258];

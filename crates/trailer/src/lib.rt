@@ -2,8 +2,8 @@
 #![tactic(auto)]
 
 ghost use Rattle.std.specs.Prelude.{◌≡◌, ◌+◌, ◌*◌, ◌≤◌, ◌<◌, length};
-ghost use Rattle.trailer.specs.Trailer.{groups_of, width_of, trailerLength, trailerStart, groupAt, start_at, groupNumber, risingOf, flatLetter, caseLetter, flagged, mode_of, editionOf};
-ghost use Rattle.trailer.specs.Trailer.{trailerBy, trailerOf, index_of, behindG, last_of, sectionStart, sectionEnd, places_of};
+ghost use Rattle.trailer.specs.Trailer.{groups_of, width_of, trailer_length, trailer_start, group_at, start_at, group_number, rising_of, flat_letter, case_letter, flagged, mode_of, edition_of};
+ghost use Rattle.trailer.specs.Trailer.{trailer_by, trailer_of, index_of, behind_g, last_of, section_start, section_end, places_of};
 
 use fields::Digits;
 use rows::Section;
@@ -41,13 +41,13 @@ fn groups(e: Edition) -> usize
 
 // The bytes of a trailer: its flag, its groups of six bytes each, and LF.
 pub fn width(e: Edition) -> usize
-    ensures { result ≡ trailerLength e }
+    ensures { result ≡ trailer_length e }
 {
     1 + 6 * groups(e) + 1
 }
 
 fn flat_letter(e: Edition) -> u8
-    ensures { result ≡ flatLetter e }
+    ensures { result ≡ flat_letter e }
 {
     match e {
         Edition::First => b'F',
@@ -56,7 +56,7 @@ fn flat_letter(e: Edition) -> u8
 }
 
 fn case_letter(e: Edition) -> u8
-    ensures { result ≡ caseLetter e }
+    ensures { result ≡ case_letter e }
 {
     match e {
         Edition::First => b'C',
@@ -66,7 +66,7 @@ fn case_letter(e: Edition) -> u8
 
 // The section behind G.
 pub fn behind_g(e: Edition) -> Section
-    ensures { result ≡ behindG e }
+    ensures { result ≡ behind_g e }
 {
     match e {
         Edition::First => Section::L,
@@ -88,7 +88,7 @@ fn last(e: Edition) -> Section
 // A space and five digits.
 fn group(s: &[u8], at: usize) -> Digits
     requires { at + 6 ≤ length s.now }
-    ensures { result ≡ groupAt s.now at }
+    ensures { result ≡ group_at s.now at }
 {
     if s[at] == b' ' {
         return fields::whole(s, at + 1, at + 6, 0);
@@ -111,7 +111,7 @@ fn placed<'a>(text: &'a [u8], at: usize) -> Reader<'a>
 
 fn next_group<'a>(r: Reader<'a>) -> Digits
     requires { r.at + 6 ≤ length r.text.now }
-    ensures { result ≡ groupAt r.entry.text.now r.entry.at }
+    ensures { result ≡ group_at r.entry.text.now r.entry.at }
 {
     group(r.text, r.at)
 }
@@ -119,7 +119,7 @@ fn next_group<'a>(r: Reader<'a>) -> Digits
 // The group at a place, for callers that have the text and the place apart.
 fn group_at(s: &[u8], at: usize) -> Digits
     requires { at + 6 ≤ length s.now }
-    ensures { result ≡ groupAt s.now at }
+    ensures { result ≡ group_at s.now at }
 {
     next_group(placed(s, at))
 }
@@ -135,7 +135,7 @@ fn start_at(s: &[u8], at: usize) -> usize
 // The number of group j of the trailer at t, counted from 0.
 fn group_number(s: &[u8], t: usize, j: usize) -> usize
     requires { t + 1 + 6 * j + 6 ≤ length s.now }
-    ensures { result ≡ groupNumber s.now t j }
+    ensures { result ≡ group_number s.now t j }
 {
     start_at(s, t + 1 + 6 * j)
 }
@@ -143,7 +143,7 @@ fn group_number(s: &[u8], t: usize, j: usize) -> usize
 // Whether n groups stand from at on, whose numbers never fall, and the last is `end`.
 fn rising(s: &[u8], at: usize, n: usize, end: usize) -> bool
     requires { at + 6 * n ≤ length s.now }
-    ensures { result ≡ risingOf n s.now at 0 end }
+    ensures { result ≡ rising_of n s.now at 0 end }
 {
     let mut low: usize = 0;
     let mut i = at;
@@ -182,7 +182,7 @@ pub fn mode(b: u8, e: Edition) -> AcStart
 
 // Which edition a text is of: the second where the byte at which its trailer would start is one of its letters.
 pub fn edition_of(s: &[u8]) -> Edition
-    ensures { result ≡ editionOf s.now }
+    ensures { result ≡ edition_of s.now }
 {
     let n = s.len();
     let w = width(Edition::Second);
@@ -197,7 +197,7 @@ pub fn edition_of(s: &[u8]) -> Edition
 // Whether k groups and LF stand behind the flag at t, the first number 0, none below the one before, and the last t.
 fn is_trailer_by(s: &[u8], t: usize, k: usize) -> bool
     requires { (0 < k) × (t + width_of k ≤ length s.now) }
-    ensures { result ≡ trailerBy k s.now t }
+    ensures { result ≡ trailer_by k s.now t }
 {
     if s[t + 1 + 6 * k] == b'\n' {
         if group_number(s, t, 0) == 0 {
@@ -209,8 +209,8 @@ fn is_trailer_by(s: &[u8], t: usize, k: usize) -> bool
 
 // Whether an edition's trailer stands from t on.
 pub fn is_trailer(s: &[u8], t: usize, e: Edition) -> bool
-    requires { t + trailerLength e ≤ length s.now }
-    ensures { result ≡ trailerOf e s.now t }
+    requires { t + trailer_length e ≤ length s.now }
+    ensures { result ≡ trailer_of e s.now t }
 {
     if is_flag(s[t], e) {
         return is_trailer_by(s, t, groups(e));
@@ -237,7 +237,7 @@ fn index(z: Section) -> usize
 // Where a section starts.
 pub fn start_of(s: &[u8], t: usize, z: Section) -> usize
     requires { t + 1 + 6 * (index_of z + 2) ≤ length s.now }
-    ensures { result ≡ sectionStart z s.now t }
+    ensures { result ≡ section_start z s.now t }
 {
     group_number(s, t, index(z))
 }
@@ -245,15 +245,15 @@ pub fn start_of(s: &[u8], t: usize, z: Section) -> usize
 // Where a section ends: at the next start.
 pub fn end_of(s: &[u8], t: usize, z: Section) -> usize
     requires { t + 1 + 6 * (index_of z + 2) ≤ length s.now }
-    ensures { result ≡ sectionEnd z s.now t }
+    ensures { result ≡ section_end z s.now t }
 {
     group_number(s, t, index(z) + 1)
 }
 
 // Where the sections of a good text of an edition start, and its trailer.
 pub fn section_places(s: &[u8], e: Edition) -> Places
-    requires { trailerLength e ≤ length s.now }
-    ensures { result ≡ places_of e s.now (trailerStart e s.now) }
+    requires { trailer_length e ≤ length s.now }
+    ensures { result ≡ places_of e s.now (trailer_start e s.now) }
 {
     let t = s.len() - width(e);
     let z = behind_g(e);

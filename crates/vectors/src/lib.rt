@@ -4,7 +4,7 @@
 ghost use Rattle.std.specs.Prelude.{◌≡◌, ◌+◌, ◌≤◌, ◌<◌, length};
 ghost use Rattle.std.specs.Float.{binary64};
 ghost use Rattle.std.specs.Float.Ieee.{of_bits};
-ghost use Rattle.vectors.specs.Words.{pair_of, word_of, doubleAt, Tells, agreementOf};
+ghost use Rattle.vectors.specs.Words.{pair_of, word_of, double_at, Tells, agreement_of};
 
 use libc::STDOUT_FILENO;
 
@@ -48,7 +48,7 @@ pub fn double(w: u64) -> f64
 // The double of eight bytes from a place on.
 pub fn double_at(s: &[u8], at: usize) -> f64
     requires { at + 8 ≤ length s.now }
-    ensures { result ≡ doubleAt at s.now }
+    ensures { result ≡ double_at at s.now }
 {
     double(word(s, at))
 }
@@ -76,7 +76,7 @@ pub fn read(fd: i32, s: &mut [u8], n: usize) -> bool
 
 // What a turn over the input answers of a whole record: 0 where it agrees, 1 where it differs.
 pub fn agreement(agrees: bool) -> u64
-    ensures { result ≡ agreementOf agrees }
+    ensures { result ≡ agreement_of agrees }
 {
     if agrees {
         return 0;

@@ -2,16 +2,16 @@
 #![tactic(auto)]
 
 ghost use Rattle.std.specs.Prelude.{◌≡◌, ◌<◌, ◌≤◌, length, get_or, replicate};
-ghost use Rattle.real.specs.First.{firstBelow};
+ghost use Rattle.real.specs.First.{first_below};
 ghost use Rattle.network.specs.Below.{Below};
-ghost use Rattle.network.specs.Network.{branchesOf};
+ghost use Rattle.network.specs.Network.{branches_of};
 ghost use Rattle.network.specs.Checks.{SizedBranches};
-ghost use Rattle.network.specs.BranchTable.{Values, BranchTable, values_of, branchTableOf, SizedValues};
+ghost use Rattle.network.specs.BranchTable.{Values, BranchTable, values_of, branch_table_of, SizedValues};
 ghost use Rattle.layout.specs.Table.{stores};
-ghost use Rattle.ybus.specs.Branch.{branchAt, admittanceOf};
+ghost use Rattle.ybus.specs.Branch.{branch_at, admittance_of};
 ghost use Rattle.ybus.specs.Listed.{pairs};
-ghost use Rattle.ybus.specs.Ybus.{Fit, entriesOf, admittancesOf, sumsTo, busColumn, diagonalParts, withBranches};
-ghost use Rattle.ybus.specs.Fault.{rowFails, rowFault, faultOf};
+ghost use Rattle.ybus.specs.Ybus.{Fit, entries_of, admittances_of, sums_to, bus_column, diagonal_parts, with_branches};
+ghost use Rattle.ybus.specs.Fault.{row_fails, row_fault, fault_of};
 
 use complex::Complex;
 use real::First;
@@ -67,7 +67,7 @@ pub enum Fault {
 // ---- a branch
 
 pub fn branch_admittance(x: Branch) -> Admittance
-    ensures { result ≡ admittanceOf x }
+    ensures { result ≡ admittance_of x }
 {
     let y = Complex::new(x.g, x.b);
     let t = Complex::polar(x.tap, x.shift);
@@ -97,7 +97,7 @@ fn branch_at(
     sw: &[f64],
 ) -> Branch
     requires e_in_bounds { let v : Values = values_of g.now b.now g_fr.now b_fr.now g_to.now b_to.now tap.now shift.now sw.now in (e < length v.g) × SizedValues (length v.g) v }
-    ensures { let v : Values = values_of g.now b.now g_fr.now b_fr.now g_to.now b_to.now tap.now shift.now sw.now in result ≡ branchAt v e }
+    ensures { let v : Values = values_of g.now b.now g_fr.now b_fr.now g_to.now b_to.now tap.now shift.now sw.now in result ≡ branch_at v e }
 {
     Branch {
         g: g[e],
@@ -126,7 +126,7 @@ pub fn admittances(
     ghost v: { Values }
     requires sw_value { values_of g.now b.now g_fr.now b_fr.now g_to.now b_to.now tap.now shift.now sw.now ≡ v }
     requires g_len_bound { (length v.g ≤ 64) × SizedValues (length v.g) v }
-    ensures { result ≡ admittancesOf (length v.g) v }
+    ensures { result ≡ admittances_of (length v.g) v }
 {
     let zero = Complex::ZERO;
     let mut all = [Admittance {
@@ -147,8 +147,8 @@ pub fn admittances(
 
 // At each bus, in branch order, the sum of y_ff of the branches from it and of y_tt of those to it.
 fn diagonals(from: &[usize], to: &[usize], y: [Admittance; 64]) -> [Complex; 32]
-    requires { SizedBranches (branchesOf from.now to.now) × Below 32 from.now × Below 32 to.now }
-    ensures { result ≡ sumsTo (length from.now) (branchesOf from.now to.now) y }
+    requires { SizedBranches (branches_of from.now to.now) × Below 32 from.now × Below 32 to.now }
+    ensures { result ≡ sums_to (length from.now) (branches_of from.now to.now) y }
 {
     let mut d = [Complex::new(0.0, 0.0); 32];
     for e in 0..from.len() {
@@ -177,7 +177,7 @@ fn bus_numbers(n: usize) -> [usize; 160]
 
 // After the places of n buses, a and b of each branch.
 fn with_ends(n: usize, a: &[usize], b: &[usize], l: [usize; 160]) -> [usize; 160]
-    requires { (n ≤ 32) × SizedBranches (branchesOf a.now b.now) }
+    requires { (n ≤ 32) × SizedBranches (branches_of a.now b.now) }
     ensures { result ≡ pairs n (length a.now) (λ e. get_or a.now e 0) (λ e. get_or b.now e 0) l }
 {
     let mut out = l;
@@ -191,8 +191,8 @@ fn with_ends(n: usize, a: &[usize], b: &[usize], l: [usize; 160]) -> [usize; 160
 
 // The rows or the columns of the list: each bus, then a and b of each branch.
 fn bus_column(n: usize, a: &[usize], b: &[usize]) -> [usize; 160]
-    requires { (n ≤ 32) × SizedBranches (branchesOf a.now b.now) }
-    ensures { result ≡ busColumn n a.now b.now }
+    requires { (n ≤ 32) × SizedBranches (branches_of a.now b.now) }
+    ensures { result ≡ bus_column n a.now b.now }
 {
     let l = bus_numbers(n);
     with_ends(n, a, b, l)
@@ -201,7 +201,7 @@ fn bus_column(n: usize, a: &[usize], b: &[usize]) -> [usize; 160]
 // The sum of each bus at its place.
 fn diagonal_parts(n: usize, d: [Complex; 32]) -> Parts
     requires { n ≤ 32 }
-    ensures { result ≡ diagonalParts n d }
+    ensures { result ≡ diagonal_parts n d }
 {
     let mut re = [0.0; 160];
     let mut im = [0.0; 160];
@@ -216,7 +216,7 @@ fn diagonal_parts(n: usize, d: [Complex; 32]) -> Parts
 // After the places of n buses, y_ft and y_tf of each of m branches.
 fn with_branches(n: usize, m: usize, y: [Admittance; 64], parts: Parts) -> Parts
     requires { (n ≤ 32) × (m ≤ 64) }
-    ensures { result ≡ withBranches n m y parts }
+    ensures { result ≡ with_branches n m y parts }
 {
     let mut re = parts.re;
     let mut im = parts.im;
@@ -247,10 +247,10 @@ pub fn build_ybus(
     sw: &[f64],
 ) -> Entries
     ghost t: { BranchTable }
-    requires sw_value { branchTableOf (branchesOf from.now to.now)
+    requires sw_value { branch_table_of (branches_of from.now to.now)
         (values_of g.now b.now g_fr.now b_fr.now g_to.now b_to.now tap.now shift.now sw.now) ≡ t }
     requires fit { Fit n t }
-    ensures { result ≡ entriesOf n t }
+    ensures { result ≡ entries_of n t }
 {
     let m = from.len();
     let y = admittances(g, b, g_fr, b_fr, g_to, b_to, tap, shift, sw);
@@ -274,7 +274,7 @@ pub fn build_ybus(
 // The first row at fault, one way or the other.
 fn first_fault(from: &[usize], to: &[usize], tap: &[f64]) -> First
     requires { (length to.now ≡ length from.now) × (length tap.now ≡ length from.now) }
-    ensures { result ≡ firstBelow (length from.now) (rowFails (branchesOf from.now to.now) tap.now) }
+    ensures { result ≡ first_below (length from.now) (row_fails (branches_of from.now to.now) tap.now) }
 {
     let mut found = First::Nowhere;
     for e in 0..from.len() {
@@ -286,7 +286,7 @@ fn first_fault(from: &[usize], to: &[usize], tap: &[f64]) -> First
 
 // The fault of a row at fault: its tap's first.
 fn row_fault(row: usize, tap: f64) -> Fault
-    ensures { result ≡ rowFault row tap }
+    ensures { result ≡ row_fault row tap }
 {
     if tap > 0.0 {
         return Fault::Ends(row);
@@ -297,7 +297,7 @@ fn row_fault(row: usize, tap: f64) -> Fault
 // The lowest branch at fault, if any: its tap is not above zero, or its ends are one bus.
 pub fn branch_fault(from: &[usize], to: &[usize], tap: &[f64]) -> Fault
     requires { (length to.now ≡ length from.now) × (length tap.now ≡ length from.now) }
-    ensures { result ≡ faultOf (branchesOf from.now to.now) tap.now }
+    ensures { result ≡ fault_of (branches_of from.now to.now) tap.now }
 {
     let found = first_fault(from, to, tap);
     match found {
