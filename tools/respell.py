@@ -67,7 +67,7 @@ for name, places in defined.items():
     if is_camel(name.split('-')[0]) and '-' not in name:
         continue
     now = new.get(name, name)
-    if re.search(r'(^|-)[A-Z](-|$)', now):
+    if '-' in now and re.search(r'(^|-)[A-Z](-|$)', now):
         now = '-'.join(p.lower() if re.fullmatch('[A-Z]', p) else p for p in now.split('-'))
     plain = now.replace('-', '_')
     is_lemma = all(not field and not {'abbrev', 'unfoldable', 'data', 'record'} & set(marks) for f, marks, field in places)

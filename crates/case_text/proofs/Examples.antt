@@ -80,7 +80,7 @@ pub padded-before : text_by allowed_before First padded_text ≡ Reading.Field 4
 unfolding text_by edition_of bytes_of part_by body_by trailer_of rising_of known_of section_by fields_by all_some pieces upto past has digits number allowed_before amount_by
 padded-before = refl
 
-bytes-b : bytes_of Section.b listing 35 ≡ line_b
+bytes-b : bytes_of Section.B listing 35 ≡ line_b
 unfolding bytes_of digits number
 bytes-b = refl
 
@@ -92,7 +92,7 @@ bytes-g : bytes_of Section.G listing 35 ≡ []
 unfolding bytes_of digits number
 bytes-g = refl
 
-bytes-l : bytes_of Section.l listing 35 ≡ []
+bytes-l : bytes_of Section.L listing 35 ≡ []
 unfolding bytes_of digits number
 bytes-l = refl
 
@@ -186,7 +186,7 @@ pub point-edition : edition_of point_text ≡ First
 unfolding edition_of
 point-edition = refl
 
--- 02, Ask 3: a second-edition text of 99 bytes. It has two `b` lines, `R 0 0`, `K 0 1 1 -8 0 0 0 0 1 0 1` and a trailer with `f`; by the first edition's rules it is refused 2
+-- 02, Ask 3: a second-edition text of 99 bytes. It has two `B` lines, `R 0 0`, `K 0 1 1 -8 0 0 0 0 1 0 1` and a trailer with `f`; by the first edition's rules it is refused 2
 abbrev branch_listing : List ℕ
 branch_listing =
     66 ∷ 32 ∷ 81 ∷ 32 ∷ 49 ∷ 32 ∷ 48 ∷ 32 ∷ 48 ∷ 32 ∷ 48 ∷ 32 ∷ 48 ∷ 32 ∷ 63 ∷ 32 ∷ 63 ∷ 10 ∷ 66 ∷ 32 ∷ 81 ∷ 32 ∷ 49 ∷ 32 ∷ 48 ∷ 32 ∷ 48 ∷ 32 ∷

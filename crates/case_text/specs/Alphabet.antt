@@ -1,4 +1,4 @@
--- 01: "The body's alphabet: LF, space, `-`, `.`, digits, `?` and the letters b R G l Y V Q." 02, Ask 3: "K joins the alphabet of its body alone", the second edition's.
+-- 01: "The body's alphabet: LF, space, `-`, `.`, digits, `?` and the letters B R G L Y V Q." 02, Ask 3: "K joins the alphabet of its body alone", the second edition's.
 pub mod Laws
 use Rattle.std.specs.Prelude.{ℕ, suc, cond, List, [], ◌∷◌}
 use Rattle.fields.specs.Cut.{has}

@@ -56,10 +56,10 @@ module _ (rule : DigitRule) where
 
   -- the tables after a good reading of a text whose trailer starts at t
   unfoldable pub tables_by : List ℕ → ℕ → Network → Network
-  tables_by s t old = filled_from (bytes_of Section.b s t) (bytes_of Section.R s t) (bytes_of Section.G s t) (bytes_of Section.l s t) (bytes_of Section.Y s t) old
+  tables_by s t old = filled_from (bytes_of Section.B s t) (bytes_of Section.R s t) (bytes_of Section.G s t) (bytes_of Section.L s t) (bytes_of Section.Y s t) old
 
   unfoldable pub branch_tables_by : List ℕ → ℕ → BranchNetwork → BranchNetwork
-  branch_tables_by s t old = branches_from (bytes_of Section.b s t) (bytes_of Section.R s t) (bytes_of Section.G s t) (bytes_of Section.K s t) old
+  branch_tables_by s t old = branches_from (bytes_of Section.B s t) (bytes_of Section.R s t) (bytes_of Section.G s t) (bytes_of Section.K s t) old
 
   -- what the reader of the first edition, which is 01's, answers and leaves, of the text and the columns as they were
   unfoldable pub read_first_by : List ℕ → Network → ReadResult Network

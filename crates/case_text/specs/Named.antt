@@ -27,7 +27,7 @@ bus_fields Naming.Triplet = 2
 module _ (e : Edition) (s : List ℕ) (t : ℕ) where
   -- how many buses a text has whose trailer starts at t, and the bus number in field j of line i
   abbrev pub text_buses : ℕ
-  text_buses = row_count (bytes_of Section.b s t)
+  text_buses = row_count (bytes_of Section.B s t)
 
   abbrev pub bus_number : Naming → ℕ → ℕ → ℕ
   bus_number table i j = number_field j (get_or (rows_of (bytes_of (naming_section e table) s t)) i [])

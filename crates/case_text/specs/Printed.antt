@@ -28,4 +28,4 @@ end_printed First s t = rows_printed Section.Y s t ++ trailer_printed (groups_of
 end_printed Second s t = trailer_printed (groups_of Second) s t
 
 abbrev pub text_printed : Edition → List ℕ → ℕ → List ℕ
-text_printed e s t = rows_printed Section.b s t ++ (rows_printed Section.R s t ++ (rows_printed Section.G s t ++ (rows_printed (behind_g e) s t ++ end_printed e s t)))
+text_printed e s t = rows_printed Section.B s t ++ (rows_printed Section.R s t ++ (rows_printed Section.G s t ++ (rows_printed (behind_g e) s t ++ end_printed e s t)))

@@ -43,7 +43,7 @@ after_y e s t nb nr ng nl ny =
     Reading.Good (record { edition = e; start = mode_of e (get_or s t 0); rows = row_counts nb nr ng nl ny })
 
 module _ (rule : DigitRule) (e : Edition) where
-  -- "Sections b, R, G, l, Y stand in that order"; "in place of the l and Y sections a K section"
+  -- "Sections B, R, G, L, Y stand in that order"; "in place of the L and Y sections a K section"
   abbrev pub after_l : List ℕ → ℕ → ℕ → ℕ → ℕ → ℕ → Reading
   after_l s t nb nr ng nl = then_section (triplet_part_by rule e s t) (after_y e s t nb nr ng nl)
 
@@ -57,7 +57,7 @@ module _ (rule : DigitRule) (e : Edition) where
   after_b s t nb = then_section (part_by rule Section.R s t) (after_r s t nb)
 
   unfoldable pub body_by : List ℕ → ℕ → Reading
-  body_by s t = then_section (part_by rule Section.b s t) (after_b s t)
+  body_by s t = then_section (part_by rule Section.B s t) (after_b s t)
 
   -- refusal 3 at the first byte before t that is not of the alphabet
   abbrev pub after_trailer : List ℕ → ℕ → Reading

@@ -16,7 +16,7 @@ use Rattle.columns.specs.Columns.{filled_buses, filled_slacks, filled_generators
 
 -- ---- a column
 
-map-agree : {A b : Type 0} (f g : A → b) (d : A) (rows : List A) → ((k : ℕ) → k < length rows → f (get_or rows k d) ≡ g (get_or rows k d)) → map f rows ≡ map g rows
+map-agree : {A B : Type 0} (f g : A → B) (d : A) (rows : List A) → ((k : ℕ) → k < length rows → f (get_or rows k d) ≡ g (get_or rows k d)) → map f rows ≡ map g rows
 map-agree f g d [] h = refl
 map-agree f g d (x ∷ xs) h = λ i. h 0 (zero-lt-suc (length xs)) i ∷ map-agree f g d xs (λ k p. h (suc k) (omega arith)) i
 
@@ -32,9 +32,9 @@ module _ (z : Section) (l : List ℕ) (sound : RowsSound allowed_before z l) whe
 
 -- ---- the tables
 
-pub buses-kept : (l : List ℕ) → RowsSound allowed_before Section.b l → (t : Buses) → filled_buses l t ≡ buses_by allowed_before l t
+pub buses-kept : (l : List ℕ) → RowsSound allowed_before Section.B l → (t : Buses) → filled_buses l t ≡ buses_by allowed_before l t
 buses-kept l s t =
-    let same = filled-kept Section.b l s in
+    let same = filled-kept Section.B l s in
     λ i.
     buses_of (filled (kind_field 0) l t.kind) (same 1 (lit< tt) tt t.vm_set i) (same 2 (lit< tt) tt t.pd i) (same 3 (lit< tt) tt t.qd i)
     (same 4 (lit< tt) tt t.pg i) (same 5 (lit< tt) tt t.qg i) (same 6 (lit< tt) tt t.vm_case i) (same 7 (lit< tt) tt t.va_case i)

@@ -19,12 +19,12 @@ pub record Values : Type 0 where
   pub shift : List Float
   pub sw : List Float
 
--- the eleven columns: the ends, as an `l` line has them, and the numbers
+-- the eleven columns: the ends, as an `L` line has them, and the numbers
 pub record BranchTable : Type 0 where
   pub ends : Branches
   pub values : Values
 
--- "in place of the l and Y sections a K section"
+-- "in place of the L and Y sections a K section"
 pub record BranchNetwork : Type 0 where
   pub buses : Buses
   pub slacks : Slacks

@@ -5,7 +5,7 @@ use Rattle.std.specs.Prelude.{ℕ, ◌≤◌, min, Bool, List, leb, length, take
 use Rattle.real.specs.Tests.{both}
 use Rattle.network.specs.declared.Rows.{Rows}
 
--- `b kind vm_set pd qd pg qg vm_case va_case`
+-- `B kind vm_set pd qd pg qg vm_case va_case`
 pub record Buses : Type 0 where
   pub kind : List ℕ
   pub vm_set : List Float
@@ -27,7 +27,7 @@ pub record Generators : Type 0 where
   pub qmin : List Float
   pub qmax : List Float
 
--- `l from to`
+-- `L from to`
 pub record Branches : Type 0 where
   pub from : List ℕ
   pub to : List ℕ

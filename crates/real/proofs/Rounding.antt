@@ -113,9 +113,9 @@ at_most k (fin true m e) c h = absurd (true≢false c)
 at_most k (fin false m e) c h = let l = either-le (m * up e * 1) (1 * 2 ^ k * down e) true h in rw (← mul-one (m * up e), ← one-mul (2 ^ k)) l
 
 pub round-at-most : (k a b : ℕ) → 0 < b → a ≤ 2 ^ k * b → round binary64 false (2 ^ k) 1 ≡ fin false 1 (pos k) → AtMost (2 ^ k) (round binary64 false a b)
-round-at-most k a b b h e =
+round-at-most k a b B h e =
     at_most k (round binary64 false a b) (round-clear binary64 a b)
-    (subst (λ (y : Float). T (le (round binary64 false a b) y)) e (round_mono binary64 a b (2 ^ k) 1 b (lit< tt) (rw mul-one h)))
+    (subst (λ (y : Float). T (le (round binary64 false a b) y)) e (round_mono binary64 a b (2 ^ k) 1 B (lit< tt) (rw mul-one h)))
 
 -- ---- from -1 to 1
 

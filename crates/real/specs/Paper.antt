@@ -15,7 +15,7 @@ pub data Paper (A : Type 0) : Type 0 where
   refused : ℕ → List Value → Paper A
 
 -- f of what is given, z of a refusal
-abbrev pub on_given : {A b : Type 0} → Paper A → (A → b) → b → b
+abbrev pub on_given : {A B : Type 0} → Paper A → (A → B) → B → B
 on_given (given a) f z = f a
 on_given (refused number values) f z = z
 

@@ -8,30 +8,30 @@ use Rattle.rows.specs.declared.Section.TheVariants as Section
 use Rattle.rows.specs.declared.Want.{Want}
 use Rattle.rows.specs.declared.Want.TheVariants as Want
 
--- the letters b, R, G, l, Y, and K
+-- the letters B, R, G, L, Y, and K
 abbrev pub section_letter : Section → ℕ
-section_letter Section.b = 66
+section_letter Section.B = 66
 section_letter Section.R = 82
 section_letter Section.G = 71
-section_letter Section.l = 76
+section_letter Section.L = 76
 section_letter Section.Y = 89
 section_letter Section.K = 75
 
 -- "the named number of fields"
 abbrev pub field_count : Section → ℕ
-field_count Section.b = 8
+field_count Section.B = 8
 field_count Section.R = 2
 field_count Section.G = 3
-field_count Section.l = 2
+field_count Section.L = 2
 field_count Section.Y = 4
 field_count Section.K = 11
 
 -- "Buses 0 to 32, slack rows 0 to 32, generators 0 to 32, branches 0 to 64, triplets 0 to 256"; K lines "at most 64"
 abbrev pub size_of : Section → ℕ
-size_of Section.b = 32
+size_of Section.B = 32
 size_of Section.R = 32
 size_of Section.G = 32
-size_of Section.l = 64
+size_of Section.L = 64
 size_of Section.Y = 256
 size_of Section.K = 64
 
@@ -39,13 +39,13 @@ size_of Section.K = 64
 abbrev pub ends_first : ℕ → Want
 ends_first j = cond (leb 2 j) Want.Plain Want.Bus
 
--- what field j holds, counted from 0: `b kind vm_set pd qd pg qg vm_case va_case`, `R bus angle`, `G bus qmin qmax`, `l from to`,
+-- what field j holds, counted from 0: `B kind vm_set pd qd pg qg vm_case va_case`, `R bus angle`, `G bus qmin qmax`, `L from to`,
 -- `Y row col re im`, `K from to g b g_fr b_fr g_to b_to tap shift sw`; "`?` .. is allowed only for vm_case and va_case". Past the last field it does not matter
 abbrev pub want_of : Section → ℕ → Want
-want_of Section.b j = cond (eqb j 0) Want.Kind (cond (leb 6 j) Want.Stored Want.Plain)
+want_of Section.B j = cond (eqb j 0) Want.Kind (cond (leb 6 j) Want.Stored Want.Plain)
 want_of Section.R j = cond (eqb j 0) Want.Bus Want.Plain
 want_of Section.G j = cond (eqb j 0) Want.Bus Want.Plain
-want_of Section.l j = Want.Bus
+want_of Section.L j = Want.Bus
 want_of Section.Y j = ends_first j
 want_of Section.K j = ends_first j
 

@@ -38,7 +38,7 @@ answer n at c = cond (eqb n 0) (given c) (refusal n at)
 abbrev pub rows_in : List ℕ → ℕ → ℕ
 rows_in s j = pair_of (10 + j * 4) s
 
--- the branches' rows are those of the lines l or K, and only the first edition has triplets
+-- the branches' rows are those of the lines L or K, and only the first edition has triplets
 abbrev pub branch_rows : Edition → List ℕ → ℕ
 branch_rows First s = rows_in s 13
 branch_rows Second s = rows_in s 19
@@ -89,7 +89,7 @@ slacks_told s = slacks_of (numbers_told s 8) (reals_told s 9)
 abbrev pub generators_told : List ℕ → Generators
 generators_told s = generators_of (numbers_told s 10) (reals_told s 11) (reals_told s 12)
 
--- columns j and j + 1, of the lines l and of the lines K
+-- columns j and j + 1, of the lines L and of the lines K
 abbrev pub branches_told : List ℕ → ℕ → Branches
 branches_told s j = branches_of (numbers_told s j) (numbers_told s (j + 1))
 

@@ -1,5 +1,5 @@
 -- 01: "The trailer is the last 38 bytes: `F` (flat) or `C` (case start), then six times a space and five digits, then LF." 02, Ask 3, of the second
--- edition: "a small `f` or `c` and five starts (b, R, G, K, itself), 32 bytes in all". It starts at the place t. What holds of any count of groups is said of k
+-- edition: "a small `f` or `c` and five starts (B, R, G, K, itself), 32 bytes in all". It starts at the place t. What holds of any count of groups is said of k
 -- groups; the editions' counts stand in `groups_of` alone.
 pub mod Laws
 use Rattle.std.specs.Prelude.{ℕ, zero, suc, ◌+◌, ◌-◌, ◌*◌, ◌<◌, Bool, cond, ◌&&◌, ◌||◌, List, eqb, leb, length, get_or}
@@ -76,18 +76,18 @@ trailer_by k s t = eqb (get_or s (t + 1 + 6 * k) 0) 10 && (eqb (group_number s t
 unfoldable pub trailer_of : Edition → List ℕ → ℕ → Bool
 trailer_of e s t = flagged e (get_or s t 0) && trailer_by (groups_of e) s t
 
--- "the numbers are the starts of b, R, G, l, Y and of the trailer"; "five starts (b, R, G, K, itself)": which of them is a section's, counted from 0
+-- "the numbers are the starts of B, R, G, L, Y and of the trailer"; "five starts (B, R, G, K, itself)": which of them is a section's, counted from 0
 abbrev pub index_of : Section → ℕ
-index_of Section.b = 0
+index_of Section.B = 0
 index_of Section.R = 1
 index_of Section.G = 2
-index_of Section.l = 3
+index_of Section.L = 3
 index_of Section.Y = 4
 index_of Section.K = 3
 
 -- the section behind G, and the last one
 abbrev pub behind_g : Edition → Section
-behind_g First = Section.l
+behind_g First = Section.L
 behind_g Second = Section.K
 
 abbrev pub last_of : Edition → Section
@@ -107,7 +107,7 @@ section_end z s t = group_number s t (index_of z + 1)
 
 abbrev pub places_of : Edition → List ℕ → ℕ → Places
 places_of e s t = record {
-  b = section_start Section.b s t;
+  b = section_start Section.B s t;
   r = section_start Section.R s t;
   g = section_start Section.G s t;
   lines = section_start (behind_g e) s t;

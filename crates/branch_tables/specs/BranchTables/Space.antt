@@ -26,7 +26,7 @@ module _ (start : AcStart) (t : BranchNetwork) (o : Outs) (f : Flows) (w v : Lis
       ∙ branches-ready start t o f v (rw size at e)
 
   -- and a refusal of the checks reads only how long the workspace is
-  branches-same-but : {b : Type 0} (g : BranchAnswer → b) → ((r : Outcome) → g (branch_answer (answer (paper_of r) o w) f) ≡ g (branch_answer (answer (paper_of r) o v) f))
+  branches-same-but : {B : Type 0} (g : BranchAnswer → B) → ((r : Outcome) → g (branch_answer (answer (paper_of r) o w) f) ≡ g (branch_answer (answer (paper_of r) o v) f))
       → g (solve_branches_of start t o f w) ≡ g (solve_branches_of start t o f v)
   branches-same-but g h = go (checked_branches_of t (lengths_in o) (flows_room f) (length w)) refl
     where

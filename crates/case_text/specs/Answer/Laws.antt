@@ -65,7 +65,7 @@ unfolding part_by
 part-most z s t n h = section-most z (section_start z s t) (bytes_of z s t) n h
 
 branches-most : (e : Edition) (s : List ℕ) (t n : ℕ) → part_of (behind_g e) s t ≡ Check.Good n → n ≤ 64
-branches-most First s t n h = part-most Section.l s t n h
+branches-most First s t n h = part-most Section.L s t n h
 branches-most Second s t n h = part-most Section.K s t n h
 
 triplets-most : (e : Edition) (s : List ℕ) (t n : ℕ) → triplet_part_of e s t ≡ Check.Good n → n ≤ 256
@@ -77,7 +77,7 @@ pub rows-most : (e : Edition) (s : List ℕ) (t : ℕ) (c : Contents) → Accept
 rows-most e s t c a =
     let b = a.body in
     record {
-      buses = part-most Section.b s t _ b.buses;
+      buses = part-most Section.B s t _ b.buses;
       slacks = part-most Section.R s t _ b.slacks;
       generators = part-most Section.G s t _ b.generators;
       branches = branches-most e s t _ b.branches;
@@ -125,13 +125,13 @@ module _ (e : Edition) (s : List ℕ) (m : Rows) (c : Contents) (f : Fitting e s
       let w = within e s t a.trailer in
       let fit = fits-at-most c.rows m f.fits in
       record {
-        br = (w Section.b (starts-b e)).ordered;
+        br = (w Section.B (starts-b e)).ordered;
         rg = (w Section.R (starts-r e)).ordered;
         gl = rw (← g-meets e s t) (w Section.G (starts-g e)).ordered;
         ly = (w (behind_g e) (starts-behind-g e)).ordered;
         yt = lines_end e s t a.trailer;
         end = omega (arith, (w (last_of e) (starts-last e)).inside, a.least);
-        bus_rows = room-buses _ b (room-rows Section.b s t _ _ a.body.buses (rw (← eb) fit.buses));
+        bus_rows = room-buses _ b (room-rows Section.B s t _ _ a.body.buses (rw (← eb) fit.buses));
         slack_rows = room-slacks _ r (room-rows Section.R s t _ _ a.body.slacks (rw (← er) fit.slacks));
         generator_rows = room-generators _ g (rw (← g-meets e s t) (room-rows Section.G s t _ _ a.body.generators (rw (← eg) fit.generators)));
       }
@@ -144,7 +144,7 @@ module _ (s : List ℕ) (m : Rows) (c : Contents) (p : Places) where
       let fit = rw r at (fits-at-most c.rows m f.fits) in
       rw q (record {
         shared = shared_at First s m c f old.buses old.slacks old.generators (λ i. (r i).buses) (λ i. (r i).slacks) (λ i. (r i).generators);
-        branches = room-branches _ old.branches (room-rows Section.l s t _ _ f.accepted.body.branches fit.branches);
+        branches = room-branches _ old.branches (room-rows Section.L s t _ _ f.accepted.body.branches fit.branches);
         triplets = room-triplets _ old.triplets (room-rows Section.Y s t _ _ f.accepted.body.triplets fit.triplets);
       })
 

@@ -98,9 +98,9 @@ module _ (s : List ℕ) (t : ℕ) where
     behind-l : (p nb nr ng nl : ℕ) → p < section_start Section.Y s t → BehindText p (after_l allowed First s t nb nr ng nl)
     behind-l p nb nr ng nl h = then-behind p (part_of Section.Y s t) _ (part-behind Section.Y p h) (λ n. tt)
 
-    behind_g_lem : (p nb nr ng : ℕ) → p < section_start Section.l s t → BehindText p (after_g allowed First s t nb nr ng)
+    behind_g_lem : (p nb nr ng : ℕ) → p < section_start Section.L s t → BehindText p (after_g allowed First s t nb nr ng)
     behind_g_lem p nb nr ng h =
-        then-behind p (part_of Section.l s t) _ (part-behind Section.l p h) (λ n. behind-l p nb nr ng n (omega (arith, h, (lies Section.l (starts-behind-g First)).ordered)))
+        then-behind p (part_of Section.L s t) _ (part-behind Section.L p h) (λ n. behind-l p nb nr ng n (omega (arith, h, (lies Section.L (starts-behind-g First)).ordered)))
 
     behind-r : (p nb nr : ℕ) → p < section_start Section.G s t → BehindText p (after_r allowed First s t nb nr)
     behind-r p nb nr h = then-behind p (part_of Section.G s t) _ (part-behind Section.G p h) (λ n. behind_g_lem p nb nr n (omega (arith, h, (lies Section.G (starts-g First)).ordered)))
@@ -111,10 +111,10 @@ module _ (s : List ℕ) (t : ℕ) where
     body-before : SameOrMoved s t (body_by allowed_before First s t) (body_of First s t)
     unfolding body_by
     body-before =
-        section-then Section.b (starts-b First) _ _ (λ nb.
+        section-then Section.B (starts-b First) _ _ (λ nb.
         section-then Section.R (starts-r First) _ _ (λ nr.
         section-then Section.G (starts-g First) _ _ (λ ng.
-        section-then Section.l (starts-behind-g First) _ _ (λ nl.
+        section-then Section.L (starts-behind-g First) _ _ (λ nl.
         section-then Section.Y (starts-last First) _ _ (λ ny. inl refl) (λ p n h. tt))
         (λ p n h. behind-l p nb nr ng n h))
         (λ p n h. behind_g_lem p nb nr n h))
@@ -157,8 +157,8 @@ module _ (s : List ℕ) where
     tables-kept =
         let b = (has-by allowed_before First s c h).body in
         λ i.
-        network_of (buses-kept _ (sound-before Section.b _ b.buses) old.buses i) (slacks-kept _ (sound-before Section.R _ b.slacks) old.slacks i)
-        (generators-kept _ (sound-before Section.G _ b.generators) old.generators i) (filled_branches (bytes_of Section.l s (trailer_start First s)) old.branches)
+        network_of (buses-kept _ (sound-before Section.B _ b.buses) old.buses i) (slacks-kept _ (sound-before Section.R _ b.slacks) old.slacks i)
+        (generators-kept _ (sound-before Section.G _ b.generators) old.generators i) (filled_branches (bytes_of Section.L s (trailer_start First s)) old.branches)
         (triplets-kept _ (sound-before Section.Y _ b.triplets) old.triplets i)
 
     -- a text that was accepted gives the answer and the columns that it gave

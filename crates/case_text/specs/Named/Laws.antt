@@ -55,11 +55,11 @@ module _ (s : List ℕ) (t : ℕ) (c : Contents) where
         let l = room-branches _ old.branches fits.branches in
         let y = room-triplets _ old.triplets fits.triplets in
         record {
-          buses = ap length (rows-are-lines _ _ old.buses.kind _ (part-rows Section.b s t _ b.buses) k.kind) ∙ length-map (rows_of (bytes_of Section.b s t)) _;
+          buses = ap length (rows-are-lines _ _ old.buses.kind _ (part-rows Section.B s t _ b.buses) k.kind) ∙ length-map (rows_of (bytes_of Section.B s t)) _;
           slacks = rows-are-lines _ _ old.slacks.bus _ (part-rows Section.R s t _ b.slacks) r.bus;
           generators = rows-are-lines _ _ old.generators.bus _ (part-rows Section.G s t _ b.generators) g.bus;
-          from = rows-are-lines _ _ old.branches.from _ (part-rows Section.l s t _ b.branches) l.from;
-          to = rows-are-lines _ _ old.branches.to _ (part-rows Section.l s t _ b.branches) l.to;
+          from = rows-are-lines _ _ old.branches.from _ (part-rows Section.L s t _ b.branches) l.from;
+          to = rows-are-lines _ _ old.branches.to _ (part-rows Section.L s t _ b.branches) l.to;
           row = rows-are-lines _ _ old.triplets.row _ (part-rows Section.Y s t _ b.triplets) y.row;
           col = rows-are-lines _ _ old.triplets.col _ (part-rows Section.Y s t _ b.triplets) y.col;
         }
@@ -75,7 +75,7 @@ module _ (s : List ℕ) (t : ℕ) (c : Contents) where
         let g = room-generators _ old.generators fits.generators in
         let l = (room-branch-table _ old.table fits.branches).ends in
         record {
-          buses = ap length (rows-are-lines _ _ old.buses.kind _ (part-rows Section.b s t _ b.buses) k.kind) ∙ length-map (rows_of (bytes_of Section.b s t)) _;
+          buses = ap length (rows-are-lines _ _ old.buses.kind _ (part-rows Section.B s t _ b.buses) k.kind) ∙ length-map (rows_of (bytes_of Section.B s t)) _;
           slacks = rows-are-lines _ _ old.slacks.bus _ (part-rows Section.R s t _ b.slacks) r.bus;
           generators = rows-are-lines _ _ old.generators.bus _ (part-rows Section.G s t _ b.generators) g.bus;
           from = rows-are-lines _ _ old.table.ends.from _ (part-rows Section.K s t _ b.branches) l.from;

@@ -107,7 +107,7 @@ edition-printed e s c h =
     let long : t + trailer_length e ≡ length s = omega (arith, a.least) in
     let part = section-then e s t long a.trailer in
     ap (λ (n : ℕ). drop n s) (sym (good-trailer e s t a.trailer).zero_first)
-    ∙ part Section.b (starts-b e) c.rows.buses _ b.buses
+    ∙ part Section.B (starts-b e) c.rows.buses _ b.buses
     (part Section.R (starts-r e) c.rows.slacks _ b.slacks
     (part Section.G (starts-g e) c.rows.generators _ b.generators
     (ap (λ (n : ℕ). drop n s) (g-meets e s t)
@@ -127,25 +127,25 @@ fields-sound s t n z h k i = section-sound allowed z (section_start z s t) (byte
 
 -- the sections that an edition has
 abbrev pub Has : Edition → Section → Type 0
-Has e Section.b = Unit
+Has e Section.B = Unit
 Has e Section.R = Unit
 Has e Section.G = Unit
-Has First Section.l = Unit
+Has First Section.L = Unit
 Has First Section.Y = Unit
 Has First Section.K = ⊥
-Has Second Section.l = ⊥
+Has Second Section.L = ⊥
 Has Second Section.Y = ⊥
 Has Second Section.K = Unit
 
 -- each section of an accepted text has sound rows
 accepted-part : (e : Edition) (s : List ℕ) (t : ℕ) (c : Contents) (z : Section) → Has e z → Accepted e s t c → (n : ℕ) × (part_of z s t ≡ Check.Good n)
-accepted-part e s t c Section.b h a = (c.rows.buses, a.body.buses)
+accepted-part e s t c Section.B h a = (c.rows.buses, a.body.buses)
 accepted-part e s t c Section.R h a = (c.rows.slacks, a.body.slacks)
 accepted-part e s t c Section.G h a = (c.rows.generators, a.body.generators)
-accepted-part First s t c Section.l h a = (c.rows.branches, a.body.branches)
+accepted-part First s t c Section.L h a = (c.rows.branches, a.body.branches)
 accepted-part First s t c Section.Y h a = (c.rows.triplets, a.body.triplets)
 accepted-part First s t c Section.K h a = absurd h
-accepted-part Second s t c Section.l h a = absurd h
+accepted-part Second s t c Section.L h a = absurd h
 accepted-part Second s t c Section.Y h a = absurd h
 accepted-part Second s t c Section.K h a = (c.rows.branches, a.body.branches)
 

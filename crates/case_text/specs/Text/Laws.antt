@@ -41,7 +41,7 @@ module _ (rule : DigitRule) (e : Edition) where
   pub record BodyBy (s : List ℕ) (t : ℕ) (c : Contents) : Type 0 where
     pub edition : c.edition ≡ e
     pub start : c.start ≡ mode_of e (get_or s t 0)
-    pub buses : part_by rule Section.b s t ≡ Check.Good c.rows.buses
+    pub buses : part_by rule Section.B s t ≡ Check.Good c.rows.buses
     pub slacks : part_by rule Section.R s t ≡ Check.Good c.rows.slacks
     pub generators : part_by rule Section.G s t ≡ Check.Good c.rows.generators
     pub branches : part_by rule (behind_g e) s t ≡ Check.Good c.rows.branches
@@ -59,7 +59,7 @@ module _ (rule : DigitRule) (e : Edition) where
     unfolding body_by
     body-sound =
         let P = BodyBy s t in
-        sections P (part_by rule Section.b s t) (after_b rule e s t) (λ nb b.
+        sections P (part_by rule Section.B s t) (after_b rule e s t) (λ nb b.
         sections P (part_by rule Section.R s t) (after_r rule e s t nb) (λ nr r.
         sections P (part_by rule Section.G s t) (after_g rule e s t nb nr) (λ ng g.
         sections P (part_by rule (behind_g e) s t) (after_l rule e s t nb nr ng) (λ nl l.

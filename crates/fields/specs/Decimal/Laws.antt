@@ -28,19 +28,19 @@ use Rattle.fields.specs.declared.Real.TheVariants as Real
 
 div-whole : (f : Format) (x y : Float) (a b : ℕ) → 0 < b → HasValue x false a 1 → HasValue y false b 1 → div f x y ≡ round f false a b
 unfolding div
-div-whole f nan y a b b p q = absurd p
-div-whole f (inf s) y a b b p q = absurd p
-div-whole f (fin true m e) y a b b p q = absurd (true-false refl p.0)
-div-whole f (fin false m e) nan a b b p q = absurd q
-div-whole f (fin false m e) (inf t) a b b p q = absurd q
-div-whole f (fin false m e) (fin true n d) a b b p q = absurd (true-false refl q.0)
-div-whole f (fin false m e) (fin false n d) a b b p q =
+div-whole f nan y a b B p q = absurd p
+div-whole f (inf s) y a b B p q = absurd p
+div-whole f (fin true m e) y a b B p q = absurd (true-false refl p.0)
+div-whole f (fin false m e) nan a b B p q = absurd q
+div-whole f (fin false m e) (inf t) a b B p q = absurd q
+div-whole f (fin false m e) (fin true n d) a b B p q = absurd (true-false refl q.0)
+div-whole f (fin false m e) (fin false n d) a b B p q =
     let u : m * up e ≡ a * down e = sym (mul-one (m * up e)) ∙ p.1 in
     let v : n * up d ≡ b * down d = sym (mul-one (n * up d)) ∙ q.1 in
-    let P : 0 < n * up d = rw v (mul-pos b (down_pos d)) in
+    let P : 0 < n * up d = rw v (mul-pos B (down_pos d)) in
     let z : (n ≡ 0 → ⊥) = λ g. lt_irrefl 0 (rw (g, zero-mul) at P) in
     let c : m * up e * down d * b ≡ a * (n * up d * down e) = rw (u, v) (simp (mul_assoc, mul_comm, mul_left_comm)) in
-    rw (ne_eqb n 0 z) (round_same f false (m * up e * down d) (n * up d * down e) a b (mul-pos P (down_pos e)) b c)
+    rw (ne_eqb n 0 z) (round_same f false (m * up e * down d) (n * up d * down e) a b (mul-pos P (down_pos e)) B c)
 
 -- ---- what a value says of the digits
 

@@ -121,7 +121,7 @@ sized-counted t b r g l y = rw (
 -- ---- the first rows of tables that have room for them
 
 -- two columns cut to n rows are of one length
-one-length : {A b : Type 0} (n : ℕ) (k : List A) (l : List b) → n ≤ length k → n ≤ length l → length (take n l) ≡ length (take n k)
+one-length : {A B : Type 0} (n : ℕ) (k : List A) (l : List B) → n ≤ length k → n ≤ length l → length (take n l) ≡ length (take n k)
 one-length n k l h i = length-take-le n l i ∙ sym (length-take-le n k h)
 
 module _ (n : ℕ) where

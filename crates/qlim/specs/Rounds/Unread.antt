@@ -63,7 +63,7 @@ module _ (d : List BusKind) (s u : Study) (few : s.n ≤ 32) (a : AlikeStudies d
   -- ---- Newton's steps
 
   module _ (kinds : List BusKind) (c : List ℕ) (x y : List Float) (i : Stand kinds c x y) where
-    active : {e k : BusKind} {z : ℕ} {v w : Float} {A b : Type 0} → Standing e k z v w → NoActive e ⊎ A → NoActive e ⊎ b → NoActive k ⊎ (A × b)
+    active : {e k : BusKind} {z : ℕ} {v w : Float} {A B : Type 0} → Standing e k z v w → NoActive e ⊎ A → NoActive e ⊎ B → NoActive k ⊎ (A × B)
     active slack p q = inl refl
     active held p q = inr (active-v p, active-v q)
     active (converted f) p q = inr (active-v p, active-v q)

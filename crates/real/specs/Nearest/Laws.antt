@@ -88,18 +88,18 @@ shifted m j k h = sym (mul_assoc m (2 ^ (j - k)) (2 ^ k) ∙ ap (λ (x : ℕ). m
 
 -- where digits are dropped, n / b has all p digits and the dropped ones
 whole-digits : (p n b : ℕ) → 0 < p → 0 < b → 0 < drop p n b → 2 ^ (p - 1) * (b * 2 ^ drop p n b) ≤ n
-whole-digits p n b P b K =
+whole-digits p n b P B K =
     let k = drop p n b in
     le_trans (le_of_eq (sym (unit (2 ^ (p - 1)) (2 ^ k) b) ∙ ap (λ (x : ℕ). x * b) (sym (pow-add 2 (p - 1) k))))
-    ((le-div_iff_mul-le b).0 (size_reaches (n / b) (p - 1 + k) (in_use (size (n / b)) p P K)))
+    ((le-div_iff_mul-le B).0 (size_reaches (n / b) (p - 1 + k) (in_use (size (n / b)) p P K)))
   where
     in_use : (z p : ℕ) → 0 < p → 0 < z - p → p - 1 + (z - p) < z
     in_use z p P h = omega arith
 
 -- m * 2 ^ j with fewer digits below is less than the least number of p digits and k dropped ones
 lower : (p b m j k : ℕ) → 0 < p → 0 < b → m < 2 ^ p → j < k → m * 2 ^ j * b < 2 ^ (p - 1) * (b * 2 ^ k)
-lower p b m j k P b M h =
-    lt_of_lt_of_le (mul-lt-mul_of_pos_right (shl_lt p j M) b)
+lower p b m j k P B M h =
+    lt_of_lt_of_le (mul-lt-mul_of_pos_right (shl_lt p j M) B)
     (le_trans (mul-le-mul_right b (pow_mono (room p j k P h))) (le_of_eq (ap (λ (x : ℕ). x * b) (pow-add 2 (p - 1) k) ∙ unit (2 ^ (p - 1)) (2 ^ k) b)))
   where
     room : (p j k : ℕ) → 0 < p → j < k → p + j ≤ p - 1 + k
@@ -108,7 +108,7 @@ lower p b m j k P b M h =
 -- no such number is nearer to n / b than the rounded one; and where another one is as near, the kept number is even
 value-ahead : (p n b m j : ℕ) → 0 < p → 0 < b → m < 2 ^ p
     → Ahead (gap (kept p n b * 2 ^ drop p n b * b) n) (gap (m * 2 ^ j * b) n) ((m * 2 ^ j ≡ kept p n b * 2 ^ drop p n b) ⊎ (kept p n b % 2 ≡ 0))
-value-ahead p n b m j P b M = rw (unit q (2 ^ k) b) (elim (below_or j k) [ inl h ↦ below h | inr h ↦ among h ])
+value-ahead p n b m j P B M = rw (unit q (2 ^ k) b) (elim (below_or j k) [ inl h ↦ below h | inr h ↦ among h ])
   where
     k : ℕ
     k = drop p n b
@@ -117,7 +117,7 @@ value-ahead p n b m j P b M = rw (unit q (2 ^ k) b) (elim (below_or j k) [ inl h
     q = kept p n b
 
     near : (i : ℕ) → Ahead (gap (q * (b * 2 ^ k)) n) (gap (i * (b * 2 ^ k)) n) ((i ≡ q) ⊎ (q % 2 ≡ 0))
-    near i = multiple-ahead q i (b * 2 ^ k) n (closest-half n (b * 2 ^ k) (mul-pos b (pow_pos k)))
+    near i = multiple-ahead q i (b * 2 ^ k) n (closest-half n (b * 2 ^ k) (mul-pos B (pow_pos k)))
 
     among : k ≤ j → Ahead (gap (q * (b * 2 ^ k)) n) (gap (m * 2 ^ j * b) n) ((m * 2 ^ j ≡ q * 2 ^ k) ⊎ (q % 2 ≡ 0))
     among h =
@@ -129,14 +129,14 @@ value-ahead p n b m j P b M = rw (unit q (2 ^ k) b) (elim (below_or j k) [ inl h
     below : j < k → Ahead (gap (q * (b * 2 ^ k)) n) (gap (m * 2 ^ j * b) n) ((m * 2 ^ j ≡ q * 2 ^ k) ⊎ (q % 2 ≡ 0))
     below h =
         let z = (near (2 ^ (p - 1))).0 in
-        let f = whole-digits p n b P b (lt_of_le_of_lt zero-le h) in
-        let l = lower p b m j k P b M h in
+        let f = whole-digits p n b P B (lt_of_le_of_lt zero-le h) in
+        let l = lower p b m j k P B M h in
         (omega arith, λ t. absurd (omega arith))
 
 -- zero is as near as the rounded number only where the kept number is even
 zero-ahead : (p n b : ℕ) → 0 < p → 0 < b → Ahead (gap (kept p n b * 2 ^ drop p n b * b) n) n (kept p n b % 2 ≡ 0)
-zero-ahead p n b P b =
-    let z = value-ahead p n b 0 0 P b (pow_pos p) in
+zero-ahead p n b P B =
+    let z = value-ahead p n b 0 0 P B (pow_pos p) in
     let e : 0 * b ≡ 0 = zero-mul b in
     (omega arith, λ t. elim (z.1 (omega arith)) [ inl c ↦ no-digits (kept p n b) (drop p n b) c | inr v ↦ v ])
   where
@@ -169,13 +169,13 @@ unfolding fits
 in-units f s zero e h = (0, pow_pos (prec f), simp zero-mul, simp zero-mul (mul-pos (pow_pos (suc (emax f))) (down_pos e)))
 in-units f s (suc m) e h =
     let A = eqb (suc m % 2) 1 in
-    let b = ltb (suc m) (2 ^ prec f) in
+    let B = ltb (suc m) (2 ^ prec f) in
     let C = leb (down e) (2 ^ low f) in
-    let d = ltb (suc m * up e) (2 ^ suc (emax f) * down e) in
-    let t : T (A && b && C) = and_l (A && b && C) d h in
-    let z = place (low f) e (leb→le (down e) (2 ^ low f) (and_r (A && b) C t)) in
+    let D = ltb (suc m * up e) (2 ^ suc (emax f) * down e) in
+    let t : T (A && B && C) = and_l (A && B && C) D h in
+    let z = place (low f) e (leb→le (down e) (2 ^ low f) (and_r (A && B) C t)) in
     let v : suc m * up e * 2 ^ low f ≡ suc m * 2 ^ z.0 * down e = mul_assoc (suc m) (up e) (2 ^ low f) ∙ ap (λ (x : ℕ). suc m * x) z.1 ∙ sym (mul_assoc (suc m) (2 ^ z.0) (down e)) in
-    (z.0, ltb→lt (suc m) (2 ^ prec f) (and_r A b (and_l (A && b) C t)), v, ltb→lt (suc m * up e) (2 ^ suc (emax f) * down e) (and_r (A && b && C) d h))
+    (z.0, ltb→lt (suc m) (2 ^ prec f) (and_r A B (and_l (A && B) C t)), v, ltb→lt (suc m * up e) (2 ^ suc (emax f) * down e) (and_r (A && B && C) D h))
 
 gap-mul : (p q c : ℕ) → gap p q * c ≡ gap (p * c) (q * c)
 gap-mul p q c = simp (add-mul, mul_comm, mul-sub)
@@ -234,7 +234,7 @@ last_bit f x s w h =
     sign false = refl
 
     only-last : (a b c : ℕ) → a % 2 ≡ 0 → b % 2 ≡ 0 → (a + b + c) % 2 ≡ c % 2
-    only-last a b c A b = omega arith
+    only-last a b c A B = omega arith
 
 -- a number of p digits and j zeros: only zeros are dropped
 pub drops-zeros : (p r j : ℕ) → r < 2 ^ p → size (r * 2 ^ j) - p ≤ j
@@ -273,21 +273,21 @@ kept-even-bits f x s q k Q E h = elim (eq-or-lt_of_le Q) [
 
 -- two distances in units, and as fractions, each times the other's `den`
 fractions-ahead : (dx dy bx by l ex ey : ℕ) {P : Type 0} → 0 < l → 0 < bx → 0 < by → dx * l ≡ ex * bx → dy * l ≡ ey * by → Ahead ex ey P → Ahead (dx * by) (dy * bx) P
-fractions-ahead dx dy bx by l ex ey l X Y h k z =
-    (transfer dx dy bx by ex ey l l l l h k (mul-le-mul_right l z.0), λ t. z.1 (le_of_mul-le-mul_right (transfer ey ex l l dy dx by bx Y X (sym k) (sym h) t) l))
+fractions-ahead dx dy bx by l ex ey L X Y h k z =
+    (transfer dx dy bx by ex ey l l L L h k (mul-le-mul_right l z.0), λ t. z.1 (le_of_mul-le-mul_right (transfer ey ex l l dy dx by bx Y X (sym k) (sym h) t) L))
 
 -- Where x = fin s m e has the sign and the units that `round` gives a / b: no y = fin t n d is nearer, and where one is as near, it is x itself, or the last bit of x is 0.
 rounded-ahead : (f : Format) (s : Bool) (m : ℕ) (e : ℤ) (a b : ℕ) → 0 < b → T (fits f (fin s m e)) → m * up e * 2 ^ low f ≡ grid f a b * down e
     → (t : Bool) (n : ℕ) (d : ℤ) → T (fits f (fin t n d))
     → Ahead (distance (fin s m e) s a b * down d) (distance (fin t n d) s a b * down e) ((fin s m e ≡ fin t n d) ⊎ (to_bits f (fin s m e) % 2 ≡ 0))
-rounded-ahead f s m e a b b F v t n d h =
+rounded-ahead f s m e a b B F v t n d h =
     let p = prec f in
     let P = two-le_pos p (two f) in
     let l = 2 ^ low f in
     let c = a * l in
     let y = in-units f t n d h in
     let w = n * 2 ^ y.0 in
-    let z = signed-ahead s t (grid f a b * b) (w * b) c (zero-ahead p c b P b) (value-ahead p c b n y.0 P b y.1) in
+    let z = signed-ahead s t (grid f a b * b) (w * b) c (zero-ahead p c b P B) (value-ahead p c b n y.0 P B y.1) in
     let r = fractions-ahead (distance (fin s m e) s a b) (distance (fin t n d) s a b) (down e) (down d) l _ _ (pow_pos (low f)) (down_pos e) (down_pos d)
     (distance-units (fin s m e) s s a b l (grid f a b) (refl, v)) (distance-units (fin t n d) t s a b l w (refl, y.2)) z in (
       r.0,
@@ -299,9 +299,9 @@ rounded-ahead f s m e a b b F v t n d h =
 
 -- a double with the sign and the units that `round` gives a / b is the nearest one
 nearest-of-value : (x : Float) (s : Bool) (a b : ℕ) → 0 < b → T (fits binary64 x) → HasValue x s (grid binary64 a b) (2 ^ low binary64) → NearestDouble x s a b
-nearest-of-value nan s a b b F v = absurd v
-nearest-of-value (inf t) s a b b F v = absurd v
-nearest-of-value (fin t m e) s a b b F v = subst (λ (r : Bool). T (fits binary64 (fin r m e)) → NearestDouble (fin r m e) s a b) (sym v.0) here F
+nearest-of-value nan s a b B F v = absurd v
+nearest-of-value (inf t) s a b B F v = absurd v
+nearest-of-value (fin t m e) s a b B F v = subst (λ (r : Bool). T (fits binary64 (fin r m e)) → NearestDouble (fin r m e) s a b) (sym v.0) here F
   where
     x : Float
     x = fin s m e
@@ -312,12 +312,12 @@ nearest-of-value (fin t m e) s a b b F v = subst (λ (r : Bool). T (fits binary6
         near : (y : Float) → Finite y → distance x s a b * den y ≤ distance y s a b * den x
         near nan h = absurd h
         near (inf t) h = absurd h
-        near (fin t n d) h = (rounded-ahead binary64 s m e a b b G v.1 t n d h).0
+        near (fin t n d) h = (rounded-ahead binary64 s m e a b B G v.1 t n d h).0
 
         even : (y : Float) → Finite y → distance y s a b * den x ≡ distance x s a b * den y → (x ≡ y → ⊥) → to_bits binary64 x % 2 ≡ 0
         even nan h q other = absurd h
         even (inf t) h q other = absurd h
-        even (fin t n d) h q other = elim ((rounded-ahead binary64 s m e a b b G v.1 t n d h).1 (le_of_eq q)) [ inl c ↦ absurd (other c) | inr E ↦ E ]
+        even (fin t n d) h q other = elim ((rounded-ahead binary64 s m e a b B G v.1 t n d h).1 (le_of_eq q)) [ inl c ↦ absurd (other c) | inr E ↦ E ]
 
 -- ---- the laws
 
@@ -326,17 +326,17 @@ round-value f s a b h =
     subst (λ (x : Float). HasValue x s (grid f a b) (2 ^ low f)) (sym (round_is f s a b)) (units_val f s (kept (prec f) (a * 2 ^ low f) b) (drop (prec f) (a * 2 ^ low f) b) h)
 
 pub round-nearest : (s : Bool) (a b : ℕ) → 0 < b → grid binary64 a b < overflow binary64 → NearestDouble (round binary64 s a b) s a b
-round-nearest s a b b h = nearest-of-value (round binary64 s a b) s a b b (round-fits binary64 s a b) (round-value binary64 s a b h)
+round-nearest s a b B h = nearest-of-value (round binary64 s a b) s a b B (round-fits binary64 s a b) (round-value binary64 s a b h)
 
 -- up to 2 ^ prec nothing rounds to an infinity
 no_overflow : (f : Format) (a b : ℕ) → 0 < b → a ≤ 2 ^ prec f * b → grid f a b < overflow f
-no_overflow f a b b h =
+no_overflow f a b B h =
     let p = prec f in
     let l = low f in
     let n = a * 2 ^ l in
     let up_to : n ≤ 2 ^ (p + l) * b = le_trans (mul-le-mul_right (2 ^ l) h) (le_of_eq (mul_right_comm (2 ^ p) b (2 ^ l) ∙ ap (λ (x : ℕ). x * b) (sym (pow-add 2 p l)))) in
-    let under : n < 2 ^ suc (p + l) * b = lt_of_le_of_lt up_to (mul-lt-mul_of_pos_right (pow-lt (lt-suc_self (p + l))) b) in
-    let few : drop p n b ≤ suc l = spare (size (n / b)) p l (size-le (n / b) (suc (p + l)) ((div-lt_iff_lt-mul b).1 under)) in
+    let under : n < 2 ^ suc (p + l) * b = lt_of_le_of_lt up_to (mul-lt-mul_of_pos_right (pow-lt (lt-suc_self (p + l))) B) in
+    let few : drop p n b ≤ suc l = spare (size (n / b)) p l (size-le (n / b) (suc (p + l)) ((div-lt_iff_lt-mul B).1 under)) in
     lt_of_le_of_lt (mul-le-mul (kept-le p n b) (pow_mono few)) (lt_of_le_of_lt (le_of_eq (sym (pow-add 2 p (suc l)))) (pow-lt (room p l (emax f) (far f))))
   where
     spare : (z p l : ℕ) → z ≤ suc (p + l) → z - p ≤ suc l
@@ -350,4 +350,4 @@ no_overflow f a b b h =
     far binary64 = lit< tt
 
 pub round-nearest-small : (s : Bool) (a b : ℕ) → 0 < b → a ≤ 2 ^ 53 * b → NearestDouble (round binary64 s a b) s a b
-round-nearest-small s a b b h = round-nearest s a b b (no_overflow binary64 a b b h)
+round-nearest-small s a b B h = round-nearest s a b B (no_overflow binary64 a b B h)

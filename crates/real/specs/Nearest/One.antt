@@ -105,9 +105,9 @@ between f s x y w v X Y E F h =
 -- the order of two distances, in units
 nearer : (x y : Float) (s : Bool) (a b l w v : ℕ) → 0 < l → HasValue x s w l → HasValue y s v l → distance x s a b * den y ≤ distance y s a b * den x
     → apart s (w * b) s (a * l) ≤ apart s (v * b) s (a * l)
-nearer x y s a b l w v l h k n =
+nearer x y s a b l w v L h k n =
     le_of_mul-le-mul_right (transfer _ _ l l (distance x s a b) (distance y s a b) (den x) (den y) (den_pos x) (den_pos y)
-    (sym (distance-units x s s a b l w h)) (sym (distance-units y s s a b l v k)) n) l
+    (sym (distance-units x s s a b l w h)) (sym (distance-units y s s a b l v k)) n) L
 
 -- what lies between two numbers that are equally far from c is nearer to c
 middle-nearer : (s : Bool) (x z y c : ℕ) → x < z → z < y → apart s x s c ≤ apart s y s c → apart s y s c ≤ apart s x s c → apart s x s c ≤ apart s z s c → ⊥
@@ -116,30 +116,30 @@ middle-nearer false x z y c g h i j k = omega arith
 
 -- of two such doubles the first is not the smaller
 no-smaller : (x y : Float) (s : Bool) (a b w v : ℕ) → 0 < b → NearestDouble x s a b → NearestDouble y s a b → Units binary64 x s w → Units binary64 y s v → w < v → ⊥
-no-smaller x y s a b w v b N M X Y h =
+no-smaller x y s a b w v B N M X Y h =
     let l = 2 ^ low binary64 in
-    let l = pow_pos (low binary64) in
+    let L = pow_pos (low binary64) in
     let xy = N.near y M.finite in
     let yx = M.near x N.finite in
     let other : x ≡ y → ⊥ = λ e. lt_irrefl v (subst (λ (n : ℕ). n < v) (one_size x s w v l X.value (subst (λ (z : Float). HasValue z s v l) (sym e) Y.value)) h) in
     let m = between binary64 s x y w v X Y (N.even y M.finite (le_antisymm yx xy) other) (M.even x N.finite (le_antisymm xy yx) (λ e. other (sym e))) h in
     let z = m.0 in
     let u = m.1 in
-    middle-nearer s (w * b) (u * b) (v * b) (a * l) (mul-lt-mul_of_pos_right m.4 b) (mul-lt-mul_of_pos_right m.5 b)
-    (nearer x y s a b l w v l X.value Y.value xy)
-    (nearer y x s a b l v w l Y.value X.value yx)
-    (nearer x z s a b l w u l X.value m.3 (N.near z (finite-double z s u l m.2 m.3)))
+    middle-nearer s (w * b) (u * b) (v * b) (a * l) (mul-lt-mul_of_pos_right m.4 B) (mul-lt-mul_of_pos_right m.5 B)
+    (nearer x y s a b l w v L X.value Y.value xy)
+    (nearer y x s a b l v w L Y.value X.value yx)
+    (nearer x z s a b l w u L X.value m.3 (N.near z (finite-double z s u l m.2 m.3)))
 
 pub nearest-one : (x y : Float) (s : Bool) (a b : ℕ) → 0 < b → NearestDouble x s a b → NearestDouble y s a b → x ≡ y
-nearest-one x y s a b b N M =
+nearest-one x y s a b B N M =
     let X = double-units x s N.finite N.sign in
     let Y = double-units y s M.finite M.sign in
     let w = X.0 in
     let v = Y.0 in
     elim (below_or w v) [
-      | inl h ↦ absurd (no-smaller x y s a b w v b N M X.1 Y.1 h)
+      | inl h ↦ absurd (no-smaller x y s a b w v B N M X.1 Y.1 h)
       | inr h ↦ elim (eq-or-lt_of_le h) [
         | inl e ↦ same-value binary64 x y s w X.1.held Y.1.held X.1.value (subst (λ (n : ℕ). HasValue y s n (2 ^ low binary64)) e Y.1.value)
-        | inr g ↦ absurd (no-smaller y x s a b v w b M N Y.1 X.1 g)
+        | inr g ↦ absurd (no-smaller y x s a b v w B M N Y.1 X.1 g)
       ]
     ]

@@ -41,10 +41,10 @@ module _ (s : List ℕ) (i e q k n : ℕ) (h : e ≤ length s) (f : Found s i e 
 
 pub no_fields : (z : Section) (f : List ℕ) → form_of z (f ∷ []) ≡ false
 unfolding all_some
-no_fields Section.b f = and-false (only 66 f)
+no_fields Section.B f = and-false (only 66 f)
 no_fields Section.R f = and-false (only 82 f)
 no_fields Section.G f = and-false (only 71 f)
-no_fields Section.l f = and-false (only 76 f)
+no_fields Section.L f = and-false (only 76 f)
 no_fields Section.Y f = and-false (only 89 f)
 no_fields Section.K f = and-false (only 75 f)
 

@@ -45,7 +45,7 @@ module _ (start : AcStart) (t : Network) (o : Outs) (w v : List Float) (size : l
   ready-space ready = rw (← size, ← ready, run-space ready)
 
   -- and a refusal of the checks reads only how long the workspace is
-  same-but : {b : Type 0} (f : Answer → b) → ((r : Outcome) → f (answer (paper_of r) o w) ≡ f (answer (paper_of r) o v)) → f (solve_of start t o w) ≡ f (solve_of start t o v)
+  same-but : {B : Type 0} (f : Answer → B) → ((r : Outcome) → f (answer (paper_of r) o w) ≡ f (answer (paper_of r) o v)) → f (solve_of start t o w) ≡ f (solve_of start t o v)
   same-but f h = go (checked_of t (lengths_in o) (length w)) refl
     where
       go : (c : Checked) → c ≡ checked_of t (lengths_in o) (length w) → f (solve_of start t o w) ≡ f (solve_of start t o v)

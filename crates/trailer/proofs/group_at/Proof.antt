@@ -58,8 +58,8 @@ use Rattle.trailer.proofs.group_at.Statement as stated
 use Rattle.trailer.proofs.group_at.Code as code
 
 -- the struct's type, over the signature's lifetimes
-abbrev b : Lfts 1 → RattleType
-b κs = T.the_row (named_lft 1 0 tt κs)
+abbrev B : Lfts 1 → RattleType
+B κs = T.the_row (named_lft 1 0 tt κs)
 
 abbrev stayed : Stays (group_at.ended).signature.params (group_at.ended).kept
 stayed = (stay_none_slice (0 ∷ []) tt (plain (λ _. u8)) yes, (stay_none (λ _. usize) yes, tt))
@@ -112,8 +112,8 @@ module _ {M : Type 1} {𝓤 : Ura M} (𝓛 : Logic 𝓤) (mem : Memory → SProp
   abbrev to-next : Reader → Val → (Next 𝓛 mem run).Ghost
   to-next r u = (((κ, tt), (q, tt), tt, (r, tt), (u ∷ [], tt)), tt)
 
-  goes-next : (r : Reader) (u : Val) → r.at + 6 ≤ length r.text.now → ent 𝓤 (⋆ 𝓛 (‵ ((b (κ, tt)).own_val r (u ∷ [])) ∷ (‵ (flft κ q) ⊛ ‵ ftrue) ∷ [])) ((Next 𝓛 mem run).pre (to-next r u))
-  goes-next r u within = qed 𝓛 (‵ ((b (κ, tt)).own_val r (u ∷ [])) ∷ (‵ (flft κ q) ⊛ ‵ ftrue) ∷ []) ∵ nothing ! $ move ! (1 ∷ 0 ∷ []) $ fjoin ! $ move ! (1 ∷ 0 ∷ []) $ says ! within $ frame ! $ done !
+  goes-next : (r : Reader) (u : Val) → r.at + 6 ≤ length r.text.now → ent 𝓤 (⋆ 𝓛 (‵ ((B (κ, tt)).own_val r (u ∷ [])) ∷ (‵ (flft κ q) ⊛ ‵ ftrue) ∷ [])) ((Next 𝓛 mem run).pre (to-next r u))
+  goes-next r u within = qed 𝓛 (‵ ((B (κ, tt)).own_val r (u ∷ [])) ∷ (‵ (flft κ q) ⊛ ‵ ftrue) ∷ []) ∵ nothing ! $ move ! (1 ∷ 0 ∷ []) $ fjoin ! $ move ! (1 ∷ 0 ∷ []) $ says ! within $ frame ! $ done !
 
   -- what `next_group` asks, of the reader that `placed` made
   fits : (r : Reader) → (r.text ≡ s) × (r.at ≡ n) → n + 6 ≤ length s.now → r.at + 6 ≤ length r.text.now
@@ -135,10 +135,10 @@ module _ {M : Type 1} {𝓤 : Ura M} (𝓛 : Logic 𝓤) (mem : Memory → SProp
         alloc1 ! (λ l₀. alloc1 ! (λ l₁. alloc1 ! (λ l₂. alloc1 ! (λ l₃. alloc0 ! $ params1 ! $ pass1 ! (init ! 4 refl ((shr_slice__lawful 𝓛 (named 0) κ u8).typed s (v ∷ []) p).0) $ pass1 ! (init ! 2 refl (tt, record { fits = ok })) $ pass0 ! $
         move ! (8 ∷ []) $ use1 𝓛 (raw ((Placed 𝓛 mem run).pre to-placed) ⊛ ‵ Own) goes-placed $ split ! $
         calls_at ! fm (Placed 𝓛 mem run) known-placed to-placed (and_then ! (load ! (from ! (stop !)) (look ! 6 refl)) (and_then ! (load ! (from ! (stop !)) (look ! 4 refl)) (no_more !))) (λ u.
-        use1 𝓛 (later (some (λ (r : Reader). ((‵ (flft κ q) ⊛ ‵ ftrue) ⊛ ‵ ((b (κ, tt)).own_val r (u ∷ []))) ⊛ raw (ensured 𝓛 placed.ended (placed.clauses 𝓛 mem run) (κ, tt) (s, (n, tt)) tt r)))) (id⊢ 𝓤 _) $ await ! tt $ pick ! (λ r.
+        use1 𝓛 (later (some (λ (r : Reader). ((‵ (flft κ q) ⊛ ‵ ftrue) ⊛ ‵ ((B (κ, tt)).own_val r (u ∷ []))) ⊛ raw (ensured 𝓛 placed.ended (placed.clauses 𝓛 mem run) (κ, tt) (s, (n, tt)) tt r)))) (id⊢ 𝓤 _) $ await ! tt $ pick ! (λ r.
         split ! $ move ! (1 ∷ []) $ use1 𝓛 (raw (fact 𝓤 ((r.text ≡ s) × (r.at ≡ n)))) (placed-said r) $ heard ! ((r.text ≡ s) × (r.at ≡ n)) (λ e. split ! $ move ! (1 ∷ []) $
         -- [what the struct owns; the token; what s owns; room for _3; …; _2; …; _1; …; room for _0; …]
-        peeks ! (b (κ, tt)) (Is (b (κ, tt))) (shows 𝓛 (b (κ, tt))) r (u ∷ []) (λ is.
+        peeks ! (B (κ, tt)) (Is (B (κ, tt))) (shows 𝓛 (B (κ, tt))) r (u ∷ []) (λ is.
         land ! (from ! (stop !)) (init ! 3 refl ((LL.lawful (T.the_type αᵉ) (T'.the_laws αᵉ) 𝓛).typed r _ is).0) $
         use2 𝓛 (raw ((Next 𝓛 mem run).pre (to-next r u))) (goes-next r u (fits r e within)) $
         calls_at ! fm (Next 𝓛 mem run) known_next (to-next r u) (and_then ! (load ! (from ! (stop !)) (look ! 2 refl)) (no_more !)) (λ u'.

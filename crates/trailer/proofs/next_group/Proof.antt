@@ -58,11 +58,11 @@ use Rattle.trailer.proofs.next_group.Statement as stated
 use Rattle.trailer.proofs.next_group.Code as code
 
 -- the struct's type, over the signature's lifetimes
-abbrev b : Lfts 1 → RattleType
-b κs = T.the_row (named_lft 1 0 tt κs)
+abbrev B : Lfts 1 → RattleType
+B κs = T.the_row (named_lft 1 0 tt κs)
 
 abbrev stayed : Stays (next_group.ended).signature.params (next_group.ended).kept
-stayed = (stay_none b yes, tt)
+stayed = (stay_none B yes, tt)
 
 module _ {M : Type 1} {𝓤 : Ura M} (𝓛 : Logic 𝓤) (mem : Memory → SProp 𝓤) (run : Routine → Fun 𝓤) where
   -- the contract that the proof cites
@@ -86,16 +86,16 @@ module _ {M : Type 1} {𝓤 : Ura M} (𝓛 : Logic 𝓤) (mem : Memory → SProp
   Post = (walk_of 𝓛 next_group.ended stayed (next_group.clauses 𝓛 mem run)).post (((κ, tt), (q, tt), tt, (d, tt), (mach ∷ [], tt)), tt)
 
   abbrev Own : Fml
-  Own = (b (κ, tt)).own_val d (mach ∷ [])
+  Own = (B (κ, tt)).own_val d (mach ∷ [])
 
   -- the struct's type and laws, and d's fields' values
-  abbrev d : Declared
-  d = T.the_type (named_lft 1 0 tt (κ, tt))
+  abbrev D : Declared
+  D = T.the_type (named_lft 1 0 tt (κ, tt))
 
-  abbrev l : LL.Laws d
-  l = T'.the_laws (named_lft 1 0 tt (κ, tt))
+  abbrev L : LL.Laws D
+  L = T'.the_laws (named_lft 1 0 tt (κ, tt))
 
-  abbrev vd : Values d.parts
+  abbrev vd : Values D.parts
   vd = (d.text, (d.at, tt))
 
   -- what the callee is passed
@@ -111,9 +111,9 @@ module _ {M : Type 1} {𝓤 : Ura M} (𝓛 : Logic 𝓤) (mem : Memory → SProp
   -- what the struct owns gives what the callee asks, and is kept
   apart : d.at < 2 ^ 64 → d.at + 6 ≤ length d.text.now → ent 𝓤 (on_entry 𝓛 next_group.signature (κ, tt) (q, tt) (d, tt) (mach ∷ [], tt)) (sep 𝓤 ((Group 𝓛 mem run).pre to) (sem 𝓛 Own))
   apart fits within =
-      qed 𝓛 ((‵ (flft κ q) ⊛ ‵ ftrue) ∷ ‵ (owns (b (κ, tt) ∷ []) (d, tt) (mach ∷ [], tt)) ∷ []) ∵
-      move ! (1 ∷ []) $ fsplit ! $ move ! (1 ∷ []) $ drop ! $ use1 𝓛 (‵ Own ⊛ ‵ Own) ((LL.copy d (T'.the_copy (named_lft 1 0 tt (κ, tt))) 𝓛).twice d (mach ∷ [])) $ split ! $
-      use1 𝓛 (given (mach ∷ [] ≡ mach ∷ []) (‵ (all_own d.parts l vd))) (own_open 𝓛 d l vd mach) $ learn ! (λ _. use1 𝓛 (‵ (field_own d.parts l 0 d.text) ⊛ ‵ (rest d.parts l 0 vd)) (own_out 𝓛 d.parts l 0 vd) $ split ! $
+      qed 𝓛 ((‵ (flft κ q) ⊛ ‵ ftrue) ∷ ‵ (owns (B (κ, tt) ∷ []) (d, tt) (mach ∷ [], tt)) ∷ []) ∵
+      move ! (1 ∷ []) $ fsplit ! $ move ! (1 ∷ []) $ drop ! $ use1 𝓛 (‵ Own ⊛ ‵ Own) ((LL.copy D (T'.the_copy (named_lft 1 0 tt (κ, tt))) 𝓛).twice d (mach ∷ [])) $ split ! $
+      use1 𝓛 (given (mach ∷ [] ≡ mach ∷ []) (‵ (all_own D.parts L vd))) (own_open 𝓛 D L vd mach) $ learn ! (λ _. use1 𝓛 (‵ (field_own D.parts L 0 d.text) ⊛ ‵ (rest D.parts L 0 vd)) (own_out 𝓛 D.parts L 0 vd) $ split ! $
       -- [what src owns; what at owns; what the struct owns; the token]
       move ! (1 ∷ []) $ drop ! $ nothing ! $ owned ! usize (Is usize) (uint__makes 𝓛 w64) d.at _ (refl, fits) $ fjoin ! $ move ! (1 ∷ 0 ∷ []) $ fjoin ! $
       move ! (2 ∷ 0 ∷ []) $ use2 𝓛 (raw ((Group 𝓛 mem run).pre to)) (asked within) $ frame ! $ done !)
@@ -156,7 +156,7 @@ module _ {M : Type 1} {𝓤 : Ura M} (𝓛 : Logic 𝓤) (mem : Memory → SProp
 next-group-meets : {M : Type 1} {𝓤 : Ura M} (𝓛 : Logic 𝓤) (mem : Memory → SProp 𝓤) (run : Routine → Fun 𝓤) (𝓣 : Tables 𝓤 𝓛.H)
     → Triple 𝓤 (𝓣.C #trailer·group) (Group 𝓛 mem run)
     → Meets 𝓛 next_group.signature (WpFn 𝓤 𝓛.H 𝓣.C 𝓣.Λ code.function) (next_group.spec 𝓛 mem run)
-next-group-meets {𝓤 = 𝓤} 𝓛 mem run 𝓣 known-group = walk__meets 𝓛 next_group.ended stayed (Goes-none 𝓛 1 b yes (λ κs x f. refl), tt) (next_group.clauses 𝓛 mem run) (WpFn 𝓤 𝓛.H 𝓣.C 𝓣.Λ code.function) (WpFn-mono 𝓤 𝓛.H 𝓛.laws 𝓣 code.function)
+next-group-meets {𝓤 = 𝓤} 𝓛 mem run 𝓣 known-group = walk__meets 𝓛 next_group.ended stayed (Goes-none 𝓛 1 B yes (λ κs x f. refl), tt) (next_group.clauses 𝓛 mem run) (WpFn 𝓤 𝓛.H 𝓣.C 𝓣.Λ code.function) (WpFn-mono 𝓤 𝓛.H 𝓛.laws 𝓣 code.function)
     (next-group-walks 𝓛 mem run 𝓣.C 𝓣.Λ (fm_of 𝓤 𝓛.H 𝓛.laws 𝓣) known-group)
 
 pub next-group-spec : {M : Type 1} → stated.statement M

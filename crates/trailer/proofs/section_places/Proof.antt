@@ -20,7 +20,7 @@ inside : (w : tie.After-width) (z : Section) → let a = w.before.before.args in
 inside w z b = omega (arith, w.width.ensures, w.before.before.requires)
 
 start-of-requires : tie.Need-start-of-requires
-start-of-requires c κs = let w = c.before in inside w Section.b (starts-b (asked w))
+start-of-requires c κs = let w = c.before in inside w Section.B (starts-b (asked w))
 
 start-of-requires-2 : tie.Need-start-of-requires-2
 start-of-requires-2 c κs = let w = c.before.before in inside w Section.R (starts-r (asked w))

@@ -124,7 +124,7 @@ module _ (e : Edition) (s : List ℕ) (t : ℕ) (h : trailer_of e s t ≡ true) 
   good-trailer = behind-flag (groups_of e) s t (and_right (flagged e (get_or s t 0)) _ h)
 
 -- the sections that both editions have, the one behind G and the last one have their starts in the trailer
-pub starts-b : (e : Edition) → Starts e Section.b
+pub starts-b : (e : Edition) → Starts e Section.B
 starts-b First = omega arith
 starts-b Second = omega arith
 
