@@ -16,7 +16,7 @@ import sys
 root = sys.argv[1] if len(sys.argv) > 1 else '.'
 antt = sorted(glob.glob(root + '/crates/*/specs/**/*.antt', recursive=True) + glob.glob(root + '/crates/*/proofs/**/*.antt', recursive=True))
 rt = sorted(glob.glob(root + '/crates/*/src/*.rt'))
-token = re.compile(r"[^\s(){}\[\],;.\"=:λ→×⌜⌝`]+")
+token = re.compile(r"[^\s(){}\[\],;.\"=:λ→×⌜⌝`/]+")
 signature = re.compile(r"^( *)((?:unfoldable |abbrev |pattern |pub |data |record )*)([^\s:(){}.,]+)((?: [({][^:]*:.*[)}])*) :( .*|)$")
 
 

@@ -1,4 +1,4 @@
--- 01, "Table of proved examples": each row has what the definitions give and what 01 says. `examples-hold` (proofs/_table.antt) says that all rows hold.
+-- 01, "Table of proved examples": each row has what the definitions give and what 01 says. `examples-hold` (proofs/Table.antt) says that all rows hold.
 use Rattle.std.specs.Prelude.{ℕ, ◌≡◌, List, [], ◌∷◌, ◌++◌, negsuc, take, Float}
 use Rattle.std.specs.Float.{nan, binary64}
 use Rattle.std.specs.Float.Ieee.{of_int, of_bits}

@@ -1,4 +1,4 @@
--- The doubles that 01 writes in decimal. Each stands by its bits, as the program's literals are read; proofs/_literals.antt shows that it is the
+-- The doubles that 01 writes in decimal. Each stands by its bits, as the program's literals are read; proofs/Literals.antt shows that it is the
 -- double nearest to the decimal.
 use Rattle.std.specs.Prelude.{ℕ, pos, Float}
 use Rattle.std.specs.Float.{binary64}

@@ -55,7 +55,7 @@ whole_of nan = pos 0
 whole_of (inf s) = pos 0
 whole_of (fin s m e) = floor_over (signed s (2 * (m * up e)) +ℤ pos (down e)) (2 * down e)
 
--- the rule for k as two facts of the fraction ±a / c: k <= ±a / c + 1/2 < k + 1, each side times 2 * c. proofs/_floor.antt shows that whole_of has them, and that no other number does
+-- the rule for k as two facts of the fraction ±a / c: k <= ±a / c + 1/2 < k + 1, each side times 2 * c. proofs/Floor.antt shows that whole_of has them, and that no other number does
 pub record Nearest (s : Bool) (a c : ℕ) (k : ℤ) : Type 0 where
   pub low : (pos (2 * c) *ℤ k) ≤ℤ (signed s (2 * a) +ℤ pos c)
   pub high : (signed s (2 * a) +ℤ pos c) <ℤ (pos (2 * c) *ℤ suc_ℤ k)

@@ -1,4 +1,4 @@
--- `linsolve_vectors::agrees` meets its contract, by the laws of proofs/_agreement.antt. Assumes nothing.
+-- `linsolve_vectors::agrees` meets its contract, by the laws of proofs/Agreement.antt. Assumes nothing.
 use mathlib.Core.Path.{sym, ◌∙◌}
 use borrow.Author.Rules.{rules}
 use Rattle.vectors.specs.Words.Laws.{never-told}

@@ -1,4 +1,4 @@
--- `real::abs` meets its contract, by the laws of proofs/_absolute.antt. Assumes nothing.
+-- `real::abs` meets its contract, by the laws of proofs/Absolute.antt. Assumes nothing.
 use Rattle.real.proofs.Absolute.{turned, cleared, kept}
 use Rattle.real.proofs.abs.Statement.{statement}
 use Rattle.real.proofs.abs.Tie as tie
