@@ -14,7 +14,7 @@ use starts::AcStart;
 use trailer::Edition;
 
 // What a good text holds: its edition, its start, and the rows of each table. A second-edition text has no triplets, and its branches are the rows of K.
-#[derive(Drop)]
+#[derive(Clone, Copy)]
 pub struct Contents {
     pub edition: Edition,
     pub start: AcStart,
@@ -22,7 +22,7 @@ pub struct Contents {
 }
 
 // The answer: what the text holds, or one of the refusals 1, 2, 3, 6, 4, 5 with its place, or 9.
-#[derive(Drop)]
+#[derive(Clone, Copy)]
 pub enum Reading {
     Good(Contents),
     Length(usize),

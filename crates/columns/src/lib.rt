@@ -12,7 +12,7 @@ ghost use Rattle.columns.specs.Columns.{row_count, filled, real_field, number_fi
 ghost use Rattle.columns.specs.Columns.{filled_buses, filled_slacks, filled_generators, filled_branches, filled_triplets, filled_branch_table};
 
 // A part of the text.
-#[derive(Drop)]
+#[derive(Clone, Copy)]
 struct Part {
     from: usize,
     to: usize,

@@ -11,14 +11,14 @@ ghost use Rattle.fields.specs.Digits.{limited_of, bus_of, is_number, number_in};
 ghost use Rattle.fields.specs.Real.{amount_of, unsigned_of, negated_of, real_of, or_nan_of, is_real, real_in};
 
 // A field read as a real.
-#[derive(Drop)]
+#[derive(Clone, Copy)]
 pub enum Real {
     Value(f64),
     Wrong,
 }
 
 // A run of digits read as a whole number.
-#[derive(Drop)]
+#[derive(Clone, Copy)]
 pub enum Digits {
     Number(usize),
     Other,

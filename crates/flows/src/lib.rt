@@ -13,7 +13,7 @@ use complex::Complex;
 use ybus::Admittance;
 
 // What enters one branch: active and reactive power at its from end and at its to end; and the loss.
-#[derive(Drop)]
+#[derive(Clone, Copy)]
 pub struct Flow {
     pub pf: f64,
     pub qf: f64,
@@ -23,7 +23,7 @@ pub struct Flow {
 }
 
 // The same of up to 64 branches, in columns.
-#[derive(Drop)]
+#[derive(Clone, Copy)]
 pub struct Flows {
     pub pf: [f64; 64],
     pub qf: [f64; 64],

@@ -11,34 +11,34 @@ use complex::Complex;
 use layout::AcPfLayout;
 
 // 32 complex numbers, one for each bus.
-#[derive(Drop)]
+#[derive(Clone, Copy)]
 pub struct Column {
     pub re: [f64; 32],
     pub im: [f64; 32],
 }
 
 // Bus voltages and currents.
-#[derive(Drop)]
+#[derive(Clone, Copy)]
 pub struct Phasors {
     pub v: Column,
     pub i: Column,
 }
 
 // Active and reactive power of each bus.
-#[derive(Drop)]
+#[derive(Clone, Copy)]
 pub struct Injected {
     pub p: [f64; 32],
     pub q: [f64; 32],
 }
 
-#[derive(Drop)]
+#[derive(Clone, Copy)]
 pub struct Injections {
     pub phasors: Phasors,
     pub power: Injected,
 }
 
 // The derivatives of a bus's power by an angle and by a magnitude.
-#[derive(Drop)]
+#[derive(Clone, Copy)]
 struct Derivatives {
     dva: Complex,
     dvm: Complex,

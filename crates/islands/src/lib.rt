@@ -55,7 +55,7 @@ fn join_all(br_from: &[usize], br_to: &[usize]) -> [usize; 32]
 }
 
 // The label of each root met so far, 32 for none, and the label that comes next.
-#[derive(Drop)]
+#[derive(Clone, Copy)]
 struct Labels {
     pub of: [usize; 32],
     pub next: usize,

@@ -11,7 +11,7 @@ ghost use Rattle.layout.specs.Limits.{limits_of};
 ghost use Rattle.layout.specs.declared.BusKind.TheVariants.{Pq};
 
 // Bus role in the power flow: the reference slack, a voltage-regulating generator bus, or a load bus.
-#[derive(Drop)]
+#[derive(Clone, Copy)]
 pub enum BusKind {
     Slack,
     Pv,
@@ -19,7 +19,7 @@ pub enum BusKind {
 }
 
 // What may be unknown of a bus.
-#[derive(Drop)]
+#[derive(Clone, Copy)]
 pub enum Unknown {
     Angle,
     Magnitude,
@@ -30,7 +30,7 @@ pub const NONE: usize = 64;
 
 // The unknowns and equations of each bus. Columns: angles of non-slack buses, then magnitudes of Pq buses. Rows match, so one number is a bus's
 // angle column and its active row, and one its magnitude column and its reactive row.
-#[derive(Drop)]
+#[derive(Clone, Copy)]
 pub struct AcPfLayout {
     pub n: usize,
     pub va_of: [usize; 32],
@@ -39,14 +39,14 @@ pub struct AcPfLayout {
 }
 
 // Magnitudes and angles of the buses; the places past them are 0.0.
-#[derive(Drop)]
+#[derive(Clone, Copy)]
 pub struct Point {
     pub vm: [f64; 32],
     pub va: [f64; 32],
 }
 
 // The reactive limits of each bus, and whether it has a generator.
-#[derive(Drop)]
+#[derive(Clone, Copy)]
 pub struct Limits {
     pub qmin: [f64; 32],
     pub qmax: [f64; 32],
@@ -129,7 +129,7 @@ fn after(has: bool, col: usize) -> usize
 }
 
 // The columns of one unknown, and the first after them.
-#[derive(Drop)]
+#[derive(Clone, Copy)]
 struct Columns {
     of: [usize; 32],
     next: usize,

@@ -6,7 +6,7 @@ ghost use Rattle.std.specs.Prelude.{◌≡◌, ◌+◌, ◌-◌, ◌*◌, ◌≤
 ghost use Rattle.real.specs.Literals.{nought};
 ghost use Rattle.linsolve.specs.Linear.{at, zeroed, cleared, added, pivot_from, swapped, swap_rows, sub_row, after_pivot, sub_lower, outcome, reduce, less_known, substitute, solution};
 
-#[derive(Drop)]
+#[derive(Clone, Copy)]
 pub enum Solution {
     Solved,
     // The column without a pivot.

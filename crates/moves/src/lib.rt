@@ -9,13 +9,13 @@ use layout::{BusKind, Limits, Point};
 use real::{Q_TOL, V_BACK};
 
 // A kind in a struct of its own: a field can be an array of these, and not one of enums.
-#[derive(Drop)]
+#[derive(Clone, Copy)]
 pub struct KindAt {
     pub kind: BusKind,
 }
 
 // What a bus does after a round: it is kept, converted to Q at a limit, or reverted to V.
-#[derive(Drop)]
+#[derive(Clone, Copy)]
 pub enum Move {
     Keep,
     AtMax,
@@ -24,7 +24,7 @@ pub enum Move {
 }
 
 // What a round changes beside the kinds. converted: 0 not converted, 1 fixed at qmax, 2 fixed at qmin.
-#[derive(Drop)]
+#[derive(Clone, Copy)]
 pub struct Track {
     pub qsched: [f64; 32],
     pub converted: [u8; 32],

@@ -12,7 +12,7 @@ ghost use Rattle.network.specs.Missing.{bus_missing, end_missing, in_column, fir
 use real::First;
 
 // A number of rows for each table.
-#[derive(Drop)]
+#[derive(Clone, Copy)]
 pub struct Rows {
     pub buses: usize,
     pub slacks: usize,
@@ -168,7 +168,7 @@ pub fn values_counted(
 // ---- refusals 8, 11, 12 and 13: a row that names a bus which is not there
 
 // The tables whose rows name buses, in the order in which they are looked at.
-#[derive(Drop)]
+#[derive(Clone, Copy)]
 pub enum Naming {
     Slack,
     Generator,
@@ -177,7 +177,7 @@ pub enum Naming {
 }
 
 // Where a missing bus is named first: the table, its row, and which of the row's bus numbers it is, 0 or 1; a row with one has 0.
-#[derive(Drop)]
+#[derive(Clone, Copy)]
 pub enum MissingBus {
     At {
         table: Naming,

@@ -15,7 +15,7 @@ use linsolve::Solution;
 use real::TOL;
 
 // What was worked out at a point: voltages and currents, the mismatch at each row, and its norm.
-#[derive(Drop)]
+#[derive(Clone, Copy)]
 pub struct Measured {
     pub phasors: Phasors,
     pub r: [f64; 64],
@@ -23,7 +23,7 @@ pub struct Measured {
 }
 
 // A length tried: where it was taken, the new point with what was worked out there, else the old.
-#[derive(Drop)]
+#[derive(Clone, Copy)]
 struct Trial {
     taken: bool,
     point: Point,
@@ -31,7 +31,7 @@ struct Trial {
 }
 
 // How the steps ended: below the tolerance, at a column without a pivot, no length helped, or all were spent.
-#[derive(Drop)]
+#[derive(Clone, Copy)]
 pub enum Ending {
     Converged,
     Singular(usize),
@@ -39,7 +39,7 @@ pub enum Ending {
     Spent,
 }
 
-#[derive(Drop)]
+#[derive(Clone, Copy)]
 pub struct Ended {
     pub point: Point,
     pub phasors: Phasors,

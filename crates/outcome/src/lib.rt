@@ -17,7 +17,7 @@ use pf_ac::AcPf;
 // What the calls answer. Each refusal is one of the papers': Counts is 7, Room 9, Slack 8, Generator 11, Branch 12, Triplet 13, Tap 14, Ends 15,
 // NotConverged 10. A row is the lowest of its table that is at fault, a field the first of that row that names a missing bus, 0 or 1. Triplet is for tables
 // with triplets alone, Tap and Ends for tables of branches.
-#[derive(Drop)]
+#[derive(Clone, Copy)]
 pub enum Outcome {
     Solved { iterations: usize, residual: f64 },
     Counts,
@@ -57,7 +57,7 @@ pub fn roomy(n: usize, vm: usize, va: usize, p: usize, q: usize, kinds: usize, w
 }
 
 // What the checks answer.
-#[derive(Drop)]
+#[derive(Clone, Copy)]
 pub enum Checked {
     Ready,
     Refused(Outcome),

@@ -18,14 +18,14 @@ use real::TOL;
 use starts::{AcStart, References};
 
 // Solved with its residual, or not converged with the best mismatch.
-#[derive(Drop)]
+#[derive(Clone, Copy)]
 pub enum AcPf {
     Solved { iterations: usize, residual: f64 },
     NotConverged { mismatch: f64, starts: usize },
 }
 
 // The outcome, and the result that was kept.
-#[derive(Drop)]
+#[derive(Clone, Copy)]
 pub struct Kept {
     pub found: AcPf,
     pub best: Settled,

@@ -15,7 +15,7 @@ use newton::{Ended, Ending};
 use real::TOL;
 
 // The last round: Newton's end, the kinds and the schedule that it ran under. The residual is that of the end, or infinity where no kinds settled.
-#[derive(Drop)]
+#[derive(Clone, Copy)]
 pub struct Settled {
     pub ended: Ended,
     pub kinds: [KindAt; 32],

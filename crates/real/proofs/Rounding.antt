@@ -67,6 +67,7 @@ either-ge a b c t = go (ltb a b) (ltb→lt a b) t
 
 first : (x y : Bool) → T x → T (x || y)
 first true y t = tt
+first false y t = elim t [ ]
 
 last : (x y : Bool) → T y → T (x || y)
 last true y t = tt

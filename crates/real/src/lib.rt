@@ -53,14 +53,14 @@ pub fn least(a: usize, b: usize) -> usize
 }
 
 // What a refusal gives beside its number: a place, a count, a row or a field; or a mismatch.
-#[derive(Drop)]
+#[derive(Clone, Copy)]
 pub enum Value {
     Whole(usize),
     Real(f64),
 }
 
 // The first number that passes a test, or that none does.
-#[derive(Drop)]
+#[derive(Clone, Copy)]
 pub enum First {
     At(usize),
     Nowhere,

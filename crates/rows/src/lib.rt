@@ -9,7 +9,7 @@ ghost use Rattle.rows.specs.Line.{spaced_of, form_of, fields_of, line_of};
 ghost use Rattle.rows.specs.Rows.{check_of};
 
 // The sections of a case text, of either edition.
-#[derive(Drop)]
+#[derive(Clone, Copy)]
 pub enum Section {
     B,
     R,
@@ -20,7 +20,7 @@ pub enum Section {
 }
 
 // What a field holds: a real, a real or `?`, a bus number, a kind.
-#[derive(Drop)]
+#[derive(Clone, Copy)]
 pub enum Want {
     Plain,
     Stored,
@@ -29,7 +29,7 @@ pub enum Want {
 }
 
 // What a check finds: so many good rows, or one of the refusals 6, 4 and 5, each with its place.
-#[derive(Drop)]
+#[derive(Clone, Copy)]
 pub enum Check {
     Good(usize),
     Rows(usize),

@@ -18,7 +18,7 @@ use outcome::Outcome;
 use starts::AcStart;
 
 // What the solve answers, and the flows.
-#[derive(Drop)]
+#[derive(Clone, Copy)]
 struct Found {
     outcome: Outcome,
     flows: Flows,

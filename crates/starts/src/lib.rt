@@ -10,14 +10,14 @@ ghost use Rattle.starts.specs.Starts.{finite_or, magnitude_for, slack_angle, ang
 use layout::{BusKind, Point};
 
 // Where the iteration starts: flat, or the stored case state first.
-#[derive(Drop)]
+#[derive(Clone, Copy)]
 pub enum AcStart {
     Flat,
     Case,
 }
 
 // Of each bus: the slack of its island, 32 where there is none, and the reference angle.
-#[derive(Drop)]
+#[derive(Clone, Copy)]
 pub struct References {
     pub slack: [usize; 32],
     pub va: [f64; 32],

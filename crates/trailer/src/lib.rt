@@ -10,14 +10,14 @@ use rows::Section;
 use starts::AcStart;
 
 // The editions of the case text: with lines and triplets, and with branches.
-#[derive(Drop)]
+#[derive(Clone, Copy)]
 pub enum Edition {
     First,
     Second,
 }
 
 // Where the sections start, and the trailer: B, R, G, then the lines L or K, then the triplets Y, of which the second edition has none.
-#[derive(Drop)]
+#[derive(Clone, Copy)]
 pub struct Places {
     pub b: usize,
     pub r: usize,
@@ -97,7 +97,7 @@ fn group(s: &[u8], at: usize) -> Digits
 }
 
 // The text and the place from which it is read on, kept together.
-#[derive(Drop)]
+#[derive(Clone, Copy)]
 struct Reader<'a> {
     text: &'a [u8],
     at: usize,

@@ -17,7 +17,7 @@ use complex::Complex;
 use real::First;
 
 // A branch: its series admittance g + jb, the shunts at its two ends, tap and shift, and sw, which multiplies all it gives: 1.0 is on, 0.0 off.
-#[derive(Drop)]
+#[derive(Clone, Copy)]
 pub struct Branch {
     pub g: f64,
     pub b: f64,
@@ -31,7 +31,7 @@ pub struct Branch {
 }
 
 // The four admittances of a branch: from-from, from-to, to-from, to-to.
-#[derive(Drop)]
+#[derive(Clone, Copy)]
 pub struct Admittance {
     pub ff: Complex,
     pub ft: Complex,
@@ -40,14 +40,14 @@ pub struct Admittance {
 }
 
 // The real and the imaginary parts of the list's entries.
-#[derive(Drop)]
+#[derive(Clone, Copy)]
 struct Parts {
     re: [f64; 160],
     im: [f64; 160],
 }
 
 // The list as four columns, of which the first `count` places are its entries.
-#[derive(Drop)]
+#[derive(Clone, Copy)]
 pub struct Entries {
     pub count: usize,
     pub row: [usize; 160],
@@ -57,7 +57,7 @@ pub struct Entries {
 }
 
 // The first row at fault: 14, its tap is not above zero, or 15, it joins a bus to itself.
-#[derive(Drop)]
+#[derive(Clone, Copy)]
 pub enum Fault {
     Tap(usize),
     Ends(usize),

@@ -1,6 +1,6 @@
 -- The labels that labels_of works out are those that 01 means, and no others are. Assumes nothing.
 use Prim.Native.Nat.{ℕ, zero, suc, ◌+◌, ◌-◌, ◌≤◌, ◌<◌}
-use Rattle.std.specs.Prelude.{◌≡◌, ◌↔◌, ◌⊎◌, true, false, cond, List, length, set, replicate, eqb}
+use Rattle.std.specs.Prelude.{◌≡◌, ◌↔◌, true, false, cond, List, length, set, replicate, eqb}
 use Rattle.std.proofs.Math.Path.{refl, sym, ap}
 use Rattle.std.proofs.Common.{◌∙◌, ⊎_elim, true≢false, append_assoc, not-suc-le-zero, eq-or-lt_of_le, add-one, eqb-true, eq-eqb, ne_eqb}
 use Rattle.std.proofs.Math.Bool.{Bool}

@@ -84,15 +84,15 @@ module _ {dim : ℕ} where
   swap_alike : {w v : List Float} → Alike dim w v → (n c p q : ℕ) → c + n ≤ dim → p < dim → q < dim → Alike dim (swap_rows n c p q w) (swap_rows n c p q v)
   unfolding swap_rows
   swap_alike a zero c p q h hp hq = swapped-alike a _ _ (a.side p hp) (a.side q hq)
-  swap_alike a (suc n) c p q h hp hq =
-      swap_alike (swapped-alike a _ _ (a.entry p c hp (omega arith)) (a.entry q c hq (omega arith))) n (c + 1) p q (omega arith) hp hq
+  swap_alike {w = w} {v = v} a (suc n) c p q h hp hq =
+      swap_alike {w = swapped (p * 64 + c) (q * 64 + c) w} (swapped-alike a _ _ (a.entry p c hp (omega arith)) (a.entry q c hq (omega arith))) n (c + 1) p q (omega arith) hp hq
 
   sub_alike : {w v : List Float} → Alike dim w v → (n c p r : ℕ) (f g : Float) → f ≡ g → n ≡ dim - c → p < dim
       → Alike dim (sub_row n c p r f w) (sub_row n c p r g v)
   unfolding sub_row
   sub_alike a zero c p r f g ef h hp = less-alike a (4096 + r) (4096 + p) f g ef (a.side p hp)
-  sub_alike a (suc n) c p r f g ef h hp =
-      sub_alike (less-alike a (r * 64 + c) (p * 64 + c) f g ef (a.entry p c hp (omega arith))) n (c + 1) p r f g ef (omega arith) hp
+  sub_alike {w = w} {v = v} a (suc n) c p r f g ef h hp =
+      sub_alike {w = less (r * 64 + c) (p * 64 + c) f w} (less-alike a (r * 64 + c) (p * 64 + c) f g ef (a.entry p c hp (omega arith))) n (c + 1) p r f g ef (omega arith) hp
 
   pivot-alike : {w v : List Float} → Alike dim w v → (n r col : ℕ) (best : Float) (p : ℕ) → r + n ≤ dim → col < dim
       → pivot_from n r col best p w ≡ pivot_from n r col best p v
@@ -110,8 +110,8 @@ module _ {dim : ℕ} where
   substitute-alike : {w v : List Float} → Alike dim w v → (n : ℕ) → n ≤ dim → Alike dim (substitute n dim w) (substitute n dim v)
   unfolding substitute
   substitute-alike a zero h = a
-  substitute-alike a (suc r) h =
-      substitute-alike
+  substitute-alike {w = w} {v = v} a (suc r) h =
+      substitute-alike {w = set {A = Float} w (4096 + r) (lib.Ieee.div lib.Ieee.binary64 (less_known (dim - (r + 1)) (r + 1) r (at w (4096 + r)) w) (at w (r * 64 + r)))}
       (stored-alike a (4096 + r) _ _ (λ e. rw (known_alike a (dim - (r + 1)) (r + 1) r _ _ e (omega arith) (omega arith), a.entry r r (omega arith) (omega arith))))
       r (omega arith)
 
@@ -120,8 +120,8 @@ module _ {dim : ℕ} where
         → Alike dim (sub_lower first n r p dim w) (sub_lower first n r p dim v)
     unfolding sub_lower
     lower-alike a zero r p h hp = a
-    lower-alike a (suc n) r p h hp =
-        lower-alike (sub_alike a (dim - first p) (first p) p r _ _ (rw (a.entry r p (omega arith) hp, a.entry p p hp hp)) refl hp) n (r + 1) p (omega arith) hp
+    lower-alike {w = w} {v = v} a (suc n) r p h hp =
+        lower-alike {w = sub_row (dim - first p) (first p) p r (lib.Ieee.div lib.Ieee.binary64 (at w (r * 64 + p)) (at w (p * 64 + p))) w} (sub_alike a (dim - first p) (first p) p r _ _ (rw (a.entry r p (omega arith) hp, a.entry p p hp hp)) refl hp) n (r + 1) p (omega arith) hp
 
     reduce-alike : {w v : List Float} → Alike dim w v → (n col : ℕ) → col + n ≤ dim
         → AlikeOutcomes dim (reduce first n col dim w) (reduce first n col dim v)

@@ -3,7 +3,7 @@ use Rattle.std.specs.Prelude.{ℕ, ◌≤◌, ◌≡◌, refl, true, length}
 use Rattle.std.proofs.Common.{arith, length-take-le, eqb-true, eq-eqb}
 use Rattle.real.specs.Tests.{both, both_l, both_r}
 use Rattle.network.specs.declared.Rows.{Rows}
-use Rattle.network.specs.Network.{bus_count, AtMost}
+use Rattle.network.specs.Network.{AtMost}
 use Rattle.network.specs.Network.Laws.{under2, under8, room-buses, room-slacks, room-generators, room-branches}
 use Rattle.network.specs.Checks.{sizes, counted, SizedTriplets}
 use Rattle.network.specs.Checks.Laws.{sized-counted, sized-first-buses, sized-first-slacks, sized-first-generators, sized-first-branches}

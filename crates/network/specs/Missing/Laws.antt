@@ -7,7 +7,6 @@ use Rattle.real.specs.Tests.{nor-left, nor-right, or-first, or-last}
 use Rattle.real.specs.First.{first_below}
 use Rattle.real.specs.First.Laws.{clear-nowhere, lowest-at, nowhere-clear, at-lowest}
 use Rattle.real.specs.declared.First.{First}
-use Rattle.real.specs.declared.First.TheVariants as First
 use Rattle.network.specs.Below.{Below}
 use Rattle.network.specs.Network.{Network, bus_count}
 use Rattle.network.specs.Missing.{bus_missing, end_missing, first_field, row_in, in_column, in_ends, or_next, missing_in}

@@ -1,6 +1,6 @@
 -- What room a table's columns have, and its first rows. Assumes nothing.
-use Rattle.std.specs.Prelude.{ℕ, ◌≤◌, min, true, List, ◌≡◌, length, take}
-use Rattle.std.proofs.Common.{sym, ◌∙◌, arith, leb-true, le-leb, length-take-le}
+use Rattle.std.specs.Prelude.{ℕ, ◌≤◌, min, true, ◌≡◌}
+use Rattle.std.proofs.Common.{arith, leb-true, le-leb}
 use Rattle.real.specs.Tests.{both, both_l, both_r}
 use Rattle.network.specs.declared.Rows.{Rows}
 use Rattle.network.specs.Network.{Buses, Slacks, Generators, Branches, Triplets, Network, room_of, buses_room, slacks_room, generators_room, branches_room, triplets_room, AtMost, fits_of}
