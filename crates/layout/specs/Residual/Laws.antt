@@ -46,18 +46,18 @@ pub record AlikeFor (n : ℕ) (kinds : List BusKind) (w v : Powers) : Type 0 whe
 pub residual-unread : (n : ℕ) (kinds : List BusKind) (w v : Powers) → n ≤ 32 → AlikeFor n kinds w v
     → residual_of (layout_of n kinds) w ≡ residual_of (layout_of n kinds) v
 unfolding layout_of
-residual-unread n kinds w v few a = unread n (p_row (layout_of n kinds)) (q_row (layout_of n kinds)) w v p_row q_row
+residual-unread n kinds w v few a = unread n (p_row (layout_of n kinds)) (q_row (layout_of n kinds)) w v p_rows q_rows
   where
-    p_row : (b : ℕ) → b < n → (p_row (layout_of n kinds) b ≡ none) ⊎ (missing_p w b ≡ missing_p v b)
-    p_row b h = go (a.active b h)
+    p_rows : (b : ℕ) → b < n → (p_row (layout_of n kinds) b ≡ none) ⊎ (missing_p w b ≡ missing_p v b)
+    p_rows b h = go (a.active b h)
       where
         go : NoActive (kind_of kinds b) ⊎ ((get_or w.pg b nan ≡ get_or v.pg b nan) × (get_or w.pd b nan ≡ get_or v.pd b nan))
             → (p_row (layout_of n kinds) b ≡ none) ⊎ (missing_p w b ≡ missing_p v b)
         go (inl e) = inl (column-none Angle n kinds b h few (rw e))
         go (inr e) = inr (rw (e.0, e.1, a.calc_p))
 
-    q_row : (b : ℕ) → b < n → (q_row (layout_of n kinds) b ≡ none) ⊎ (missing_q w b ≡ missing_q v b)
-    q_row b h = go (a.reactive b h)
+    q_rows : (b : ℕ) → b < n → (q_row (layout_of n kinds) b ≡ none) ⊎ (missing_q w b ≡ missing_q v b)
+    q_rows b h = go (a.reactive b h)
       where
         go : NoReactive (kind_of kinds b) ⊎ ((get_or w.qg b nan ≡ get_or v.qg b nan) × (get_or w.qd b nan ≡ get_or v.qd b nan))
             → (q_row (layout_of n kinds) b ≡ none) ⊎ (missing_q w b ≡ missing_q v b)
