@@ -1,0 +1,19 @@
+-- `trig::half_up` meets its contract: the laws of proofs/Near.antt at its two calls and its test. Assumes nothing.
+use Rattle.std.proofs.Common.{rules}
+use Rattle.trig.proofs.Near.{in-word, next_fits, up-as-is, up_next}
+use Rattle.trig.proofs.half_up.Goals as goal
+
+pub truncating_f64_to_u64-n-requires-clause-lower_bound : goal.truncating_f64_to_u64-n-requires-clause-lower_bound
+truncating_f64_to_u64-n-requires-clause-lower_bound c = (in-word _ (c.requires.fact_1, c.requires.fact_2)).0
+
+pub truncating_f64_to_u64-n-requires-clause-upper_bound : goal.truncating_f64_to_u64-n-requires-clause-upper_bound
+truncating_f64_to_u64-n-requires-clause-upper_bound c = (in-word _ (c.requires.fact_1, c.requires.fact_2)).1
+
+pub overflow_add-result : goal.overflow_add-result
+overflow_add-result c = next_fits _ (search rules) c.truncating_f64_to_u64-n.ensures
+
+pub returns-then-a-middle : goal.returns-then-a-middle
+returns-then-a-middle c = up-as-is (search rules) c.if-a-middle.true
+
+pub returns-else-a-middle : goal.returns-else-a-middle
+returns-else-a-middle c = up_next (search rules) c.if-a-middle.false

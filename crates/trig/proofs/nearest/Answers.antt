@@ -1,0 +1,39 @@
+-- `trig::nearest` meets its contract: it goes by the sign to the positive number of the same size. Assumes nothing.
+use Rattle.std.proofs.Common.{◌≡◌, ℕ, pos, neg_ℤ, ap, ◌∙◌, w64}
+use mir.ValLaws.{to_z-of_z}
+use Rattle.trig.specs.Sine.{whole_of, quarter_of}
+use Rattle.trig.proofs.Signs.{positive-above, positive-below, whole_above, whole_below, whole-at-zero, as-signed, minus, minus-in, quarter-minus}
+use Rattle.trig.proofs.nearest.Goals as goal
+
+pub half_up-n-requires-clause-fact_1 : goal.half_up-n-requires-clause-fact_1
+half_up-n-requires-clause-fact_1 c = positive-above c.args.t c.if-t.true c.requires.fact_2
+
+pub half_down-n-requires-clause-fact_1 : goal.half_down-n-requires-clause-fact_1
+half_down-n-requires-clause-fact_1 c = (positive-below c.args.t c.if-t-2.true c.requires.fact_1).0
+
+pub half_down-n-requires-clause-fact_2 : goal.half_down-n-requires-clause-fact_2
+half_down-n-requires-clause-fact_2 c = (positive-below c.args.t c.if-t-2.true c.requires.fact_1).1
+
+pub returns-then-t : goal.returns-then-t
+unfolding quarter_of
+returns-then-t c =
+    let n = c.half_up-n.result in
+    let k : pos n ≡ whole_of c.args.t = ap pos c.half_up-n.ensures.0 ∙ whole_above c.args.t (positive-above c.args.t c.if-t.true c.requires.fact_2) in
+    (as-signed n c.half_up-n.ensures.1 ∙ k, ap quarter_of k)
+
+pub overflow_sub-result : goal.overflow_sub-result
+overflow_sub-result c = minus-in c.half_down-n.result c.half_down-n.ensures.1
+
+pub returns-then-t-2 : goal.returns-then-t-2
+returns-then-t-2 c =
+    let n = c.half_down-n.result in
+    let small = c.half_down-n.ensures.1 in
+    let k : neg_ℤ (pos n) ≡ whole_of c.args.t =
+    ap (λ (q : ℕ). neg_ℤ (pos q)) c.half_down-n.ensures.0 ∙ whole_below c.args.t (positive-below c.args.t c.if-t-2.true c.requires.fact_1).0 in
+    (to_z-of_z w64 _ (minus-in n small) ∙ minus n small ∙ k, quarter-minus n ∙ ap quarter_of k)
+
+pub returns : goal.returns
+unfolding quarter_of
+returns c =
+    let k = whole-at-zero c.args.t c.if-t.false c.if-t-2.false c.requires.fact_1 c.requires.fact_2 in
+    (k, ap quarter_of k)
