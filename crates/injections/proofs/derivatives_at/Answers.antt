@@ -1,0 +1,10 @@
+-- `injections::derivatives_at` meets its contract, by its two ways. Assumes nothing.
+use mathlib.Core.Path.{sym, ◌∙◌}
+use Rattle.injections.specs.Jacobian.Laws.{derivatives-on, derivatives-off}
+use Rattle.injections.proofs.derivatives_at.Goals as goal
+
+pub returns-then-i-k : goal.returns-then-i-k
+returns-then-i-k c = c.on_diagonal.ensures ∙ sym (derivatives-on _ _ _ _ _ _ _ c.if-i-k.true)
+
+pub returns : goal.returns
+returns c = c.off_diagonal.ensures ∙ sym (derivatives-off _ _ _ _ _ _ _ c.if-i-k.false)
