@@ -76,10 +76,10 @@ fn currents(
     y_im: &[f64],
     v: Column,
 ) -> Column
-    ghost y: { Triplets }
-    requires y_im_value { triplets_of y_row.now y_col.now y_re.now y_im.now ≡ y }
-    requires good_triplets { GoodTriplets n y }
-    ensures { result ≡ currents_to (length y.row) y v }
+    requires { let y : Triplets = triplets_of y_row.now y_col.now y_re.now y_im.now in
+        GoodTriplets n y }
+    ensures { let y : Triplets = triplets_of y_row.now y_col.now y_re.now y_im.now in
+        result ≡ currents_to (length y.row) y v }
 {
     let mut re = [0.0; 32];
     let mut im = [0.0; 32];
@@ -104,10 +104,10 @@ pub fn bus_phasors(
     vm: [f64; 32],
     va: [f64; 32],
 ) -> Phasors
-    ghost y: { Triplets }
-    requires y_im_value { triplets_of y_row.now y_col.now y_re.now y_im.now ≡ y }
-    requires good_triplets { GoodTriplets n y }
-    ensures { result ≡ phasors_of n y vm va }
+    requires { let y : Triplets = triplets_of y_row.now y_col.now y_re.now y_im.now in
+        GoodTriplets n y }
+    ensures { let y : Triplets = triplets_of y_row.now y_col.now y_re.now y_im.now in
+        result ≡ phasors_of n y vm va }
 {
     let v = voltages(n, vm, va);
     let i = currents(n, y_row, y_col, y_re, y_im, v);
@@ -142,10 +142,10 @@ pub fn ac_injections(
     vm: [f64; 32],
     va: [f64; 32],
 ) -> Injections
-    ghost y: { Triplets }
-    requires y_im_value { triplets_of y_row.now y_col.now y_re.now y_im.now ≡ y }
-    requires good_triplets { GoodTriplets n y }
-    ensures { result ≡ injections_of n y vm va }
+    requires { let y : Triplets = triplets_of y_row.now y_col.now y_re.now y_im.now in
+        GoodTriplets n y }
+    ensures { let y : Triplets = triplets_of y_row.now y_col.now y_re.now y_im.now in
+        result ≡ injections_of n y vm va }
 {
     let phasors = bus_phasors(n, y_row, y_col, y_re, y_im, vm, va);
     let power = bus_powers(n, phasors);
@@ -255,10 +255,10 @@ pub fn ac_jacobian(
     layout: AcPfLayout,
     w: &mut [f64],
 )
-    ghost y: { Triplets }
-    requires y_im_value { triplets_of y_row.now y_col.now y_re.now y_im.now ≡ y }
-    requires good_triplets { GoodTriplets n y × (4160 ≤ length w.old) }
-    ensures { w.new ≡ jacobian_of y va s layout w.old }
+    requires { let y : Triplets = triplets_of y_row.now y_col.now y_re.now y_im.now in
+        GoodTriplets n y × (4160 ≤ length w.old) }
+    ensures { let y : Triplets = triplets_of y_row.now y_col.now y_re.now y_im.now in
+        w.new ≡ jacobian_of y va s layout w.old }
 {
     // Voltages of magnitude one, once for each bus and not for each triplet.
     let unit = voltages(n, [1.0; 32], va);

@@ -2,4 +2,4 @@
 use Rattle.injections.proofs.ac_injections.Goals as goal
 
 pub returns : goal.returns
-returns g c = rw (c.bus_powers-power.ensures, c.bus_phasors-phasors.ensures)
+returns c = rw (c.bus_powers-power.ensures, c.bus_phasors-phasors.ensures)

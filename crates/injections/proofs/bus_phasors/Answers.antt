@@ -4,4 +4,4 @@ use Rattle.injections.proofs.bus_phasors.Goals as goal
 
 pub returns : goal.returns
 unfolding phasors_of
-returns g c = rw (c.currents-i.ensures, c.voltages-v.ensures)
+returns c = rw (c.currents-i.ensures, c.voltages-v.ensures)

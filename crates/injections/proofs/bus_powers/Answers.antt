@@ -15,6 +15,7 @@ loop-b-preserved c =
     )
 
 pub loop-b-init : goal.loop-b-init
+unfolding injected_of
 loop-b-init c = (stored-none, stored-none)
 
 pub returns : goal.returns

@@ -8,6 +8,7 @@ pub loop-b-preserved : goal.loop-b-preserved
 loop-b-preserved c = let l = c.loop-b in (stored_next l.invariant.0 (omega arith) (rw c.polar-v.ensures), stored_next l.invariant.1 (omega arith) (rw c.polar-v.ensures))
 
 pub loop-b-init : goal.loop-b-init
+unfolding voltages_of
 loop-b-init c = (stored-none, stored-none)
 
 pub returns : goal.returns
