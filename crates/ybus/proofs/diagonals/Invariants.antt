@@ -1,0 +1,10 @@
+-- `ybus::diagonals` meets its contract: the sums are those of the branches passed. Assumes nothing.
+use Prim.Native.Nat.{◌≤◌}
+use mathlib.Core.Path.{◌≡◌}
+use lib.ListN.{length}
+use Rattle.network.specs.Network.{branches_of}
+use Rattle.ybus.specs.Ybus.{sums_to}
+use Rattle.ybus.proofs.diagonals.Given as goal
+
+abbrev pub invariant-loop-e : goal.invariant-loop-e
+invariant-loop-e l = (l.e ≤ l.e-end) × (l.e-end ≡ length l.from) × (l.d ≡ sums_to l.e (branches_of l.from l.to) l.y)
