@@ -139,23 +139,28 @@ fn solve_built(
     loss: &mut [f64],
     w: &mut [f64],
 ) -> Outcome
-    ghost { BranchNetwork × Outs × Flows × List Float }
-    requires* w_value { λ α. ⌜ (
-      branch_network_of
-          (buses_of kind.now vm_set.now pd.now qd.now pg.now qg.now vm_case.now va_case.now)
-          (slacks_of slacks.now va_slacks.now)
-          (generators_of gen_bus.now qmin.now qmax.now)
-          (branch_table_of (branches_of from.now to.now)
-          (values_of g.now b.now g_fr.now b_fr.now g_to.now b_to.now tap.now shift.now sw.now)),
-      outs vm.old va.old p.old q.old kinds.old,
-      flows_of pf.old qf.old pt.old qt.old loss.old,
-      w.old,
-    ) ≡ α ⌝ }
-    requires* fact { λ (t, o, f, space). ⌜ ReadyBranches t (lengths_in o) (flows_room f) (length space) ⌝ }
-    ensures* { λ (t, o, f, space) r.
+    requires { let t : BranchNetwork = branch_network_of
+        (buses_of kind.now vm_set.now pd.now qd.now pg.now qg.now vm_case.now va_case.now)
+        (slacks_of slacks.now va_slacks.now)
+        (generators_of gen_bus.now qmin.now qmax.now)
+        (branch_table_of (branches_of from.now to.now)
+        (values_of g.now b.now g_fr.now b_fr.now g_to.now b_to.now tap.now shift.now sw.now)) in
+        let o : Outs = outs vm.old va.old p.old q.old kinds.old in
+        let f : Flows = flows_of pf.old qf.old pt.old qt.old loss.old in
+        let space : List Float = w.old in
+        ReadyBranches t (lengths_in o) (flows_room f) (length space) }
+    ensures { let t : BranchNetwork = branch_network_of
+        (buses_of kind.now vm_set.now pd.now qd.now pg.now qg.now vm_case.now va_case.now)
+        (slacks_of slacks.now va_slacks.now)
+        (generators_of gen_bus.now qmin.now qmax.now)
+        (branch_table_of (branches_of from.now to.now)
+        (values_of g.now b.now g_fr.now b_fr.now g_to.now b_to.now tap.now shift.now sw.now)) in
+        let o : Outs = outs vm.old va.old p.old q.old kinds.old in
+        let f : Flows = flows_of pf.old qf.old pt.old qt.old loss.old in
+        let space : List Float = w.old in
         let e = outs vm.new va.new p.new q.new kinds.new in
         let g = flows_of pf.new qf.new pt.new qt.new loss.new in
-        ⌜ branch_answer (answer (paper_of r) e w.new) g ≡ ran_branches start t o f space ⌝ }
+        branch_answer (answer (paper_of result) e w.new) g ≡ ran_branches start t o f space }
 {
     let y = ybus::build_ybus(
         kind.len(),

@@ -185,10 +185,10 @@ pub fn fill_buses(
     vm_case: &mut [f64],
     va_case: &mut [f64],
 )
-    ghost t: { Buses }
-    requires va_case_value { buses_of kind.old vm_set.old pd.old qd.old pg.old qg.old vm_case.old va_case.old ≡ t }
-    requires a_le_e { (a ≤ e) × (e ≤ length s.now) × RoomBuses (row_count (slice a e s.now)) t }
-    ensures { buses_of kind.new vm_set.new pd.new qd.new pg.new qg.new
+    requires { let t : Buses = buses_of kind.old vm_set.old pd.old qd.old pg.old qg.old vm_case.old va_case.old in
+        (a ≤ e) × (e ≤ length s.now) × RoomBuses (row_count (slice a e s.now)) t }
+    ensures { let t : Buses = buses_of kind.old vm_set.old pd.old qd.old pg.old qg.old vm_case.old va_case.old in
+        buses_of kind.new vm_set.new pd.new qd.new pg.new qg.new
         vm_case.new va_case.new ≡ filled_buses (slice a e s.now) t }
 {
     fill_buses_front(s, a, e, kind, vm_set, pd, qd);
@@ -272,11 +272,13 @@ pub fn fill_sources(
     qmin: &mut [f64],
     qmax: &mut [f64],
 )
-    ghost { Slacks × Generators }
-    requires* qmax_value { λ t. ⌜ (slacks_of slacks.old va_slacks.old, generators_of gen_bus.old qmin.old qmax.old) ≡ t ⌝ }
-    requires* fact { λ (u, v). ⌜ (r ≤ g) × (g ≤ l) × (l ≤ length s.now) × RoomSlacks (row_count (slice r g s.now)) u × RoomGenerators (row_count (slice g l s.now)) v ⌝ }
-    ensures* { λ (u, v) _. ⌜ (slacks_of slacks.new va_slacks.new ≡ filled_slacks (slice r g s.now) u)
-        × (generators_of gen_bus.new qmin.new qmax.new ≡ filled_generators (slice g l s.now) v) ⌝ }
+    requires { let u : Slacks = slacks_of slacks.old va_slacks.old in
+        let v : Generators = generators_of gen_bus.old qmin.old qmax.old in
+        (r ≤ g) × (g ≤ l) × (l ≤ length s.now) × RoomSlacks (row_count (slice r g s.now)) u × RoomGenerators (row_count (slice g l s.now)) v }
+    ensures { let u : Slacks = slacks_of slacks.old va_slacks.old in
+        let v : Generators = generators_of gen_bus.old qmin.old qmax.old in
+        (slacks_of slacks.new va_slacks.new ≡ filled_slacks (slice r g s.now) u)
+        × (generators_of gen_bus.new qmin.new qmax.new ≡ filled_generators (slice g l s.now) v) }
 {
     fill_slacks(s, r, g, slacks, va_slacks);
     fill_generators(s, g, l, gen_bus, qmin, qmax);
@@ -295,11 +297,13 @@ pub fn fill_lines(
     y_re: &mut [f64],
     y_im: &mut [f64],
 )
-    ghost { Branches × Triplets }
-    requires* y_im_value { λ α. ⌜ (branches_of br_from.old br_to.old, triplets_of y_row.old y_col.old y_re.old y_im.old) ≡ α ⌝ }
-    requires* fact { λ (u, v). ⌜ (l ≤ y) × (y ≤ t) × (t ≤ length s.now) × RoomBranches (row_count (slice l y s.now)) u × RoomTriplets (row_count (slice y t s.now)) v ⌝ }
-    ensures* { λ (u, v) _. ⌜ (branches_of br_from.new br_to.new ≡ filled_branches (slice l y s.now) u)
-        × (triplets_of y_row.new y_col.new y_re.new y_im.new ≡ filled_triplets (slice y t s.now) v) ⌝ }
+    requires { let u : Branches = branches_of br_from.old br_to.old in
+        let v : Triplets = triplets_of y_row.old y_col.old y_re.old y_im.old in
+        (l ≤ y) × (y ≤ t) × (t ≤ length s.now) × RoomBranches (row_count (slice l y s.now)) u × RoomTriplets (row_count (slice y t s.now)) v }
+    ensures { let u : Branches = branches_of br_from.old br_to.old in
+        let v : Triplets = triplets_of y_row.old y_col.old y_re.old y_im.old in
+        (branches_of br_from.new br_to.new ≡ filled_branches (slice l y s.now) u)
+        × (triplets_of y_row.new y_col.new y_re.new y_im.new ≡ filled_triplets (slice y t s.now) v) }
 {
     fill_branches(s, l, y, br_from, br_to);
     fill_triplets(s, y, t, y_row, y_col, y_re, y_im);
@@ -322,11 +326,12 @@ pub fn fill_branch_table(
     shift: &mut [f64],
     sw: &mut [f64],
 )
-    ghost t: { BranchTable }
-    requires sw_value { branch_table_of (branches_of from.old to.old)
-        (values_of g.old b.old g_fr.old b_fr.old g_to.old b_to.old tap.old shift.old sw.old) ≡ t }
-    requires a_le_e { (a ≤ e) × (e ≤ length s.now) × RoomBranchTable (row_count (slice a e s.now)) t }
-    ensures { branch_table_of (branches_of from.new to.new)
+    requires { let t : BranchTable = branch_table_of (branches_of from.old to.old)
+        (values_of g.old b.old g_fr.old b_fr.old g_to.old b_to.old tap.old shift.old sw.old) in
+        (a ≤ e) × (e ≤ length s.now) × RoomBranchTable (row_count (slice a e s.now)) t }
+    ensures { let t : BranchTable = branch_table_of (branches_of from.old to.old)
+        (values_of g.old b.old g_fr.old b_fr.old g_to.old b_to.old tap.old shift.old sw.old) in
+        branch_table_of (branches_of from.new to.new)
         (values_of g.new b.new g_fr.new b_fr.new g_to.new b_to.new tap.new
         shift.new sw.new) ≡ filled_branch_table (slice a e s.now) t }
 {

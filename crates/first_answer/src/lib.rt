@@ -44,20 +44,23 @@ fn solve_rows(
     kinds: &mut [u8],
     w: &mut [f64],
 ) -> Outcome
-    ghost { Network × Outs × List Float }
-    requires* w_value { λ α. ⌜ (
-      network_of
-          (buses_of kind.now vm_set.now pd.now qd.now pg.now qg.now vm_case.now va_case.now)
-          (slacks_of slacks.now va_slacks.now)
-          (generators_of gen_bus.now qmin.now qmax.now)
-          (branches_of br_from.now br_to.now)
-          (triplets_of y_row.now y_col.now y_re.now y_im.now),
-      outs vm.old va.old p.old q.old kinds.old,
-      w.old,
-    ) ≡ α ⌝ }
-    requires* fact { λ (t, o, space). ⌜ RoomFor rows t ⌝ }
-    ensures* { λ (t, o, space) r. ⌜ answer (paper_of r) (outs vm.new va.new p.new q.new kinds.new)
-        w.new ≡ solve_of start (first_rows rows t) o space ⌝ }
+    requires { let t : Network = network_of
+        (buses_of kind.now vm_set.now pd.now qd.now pg.now qg.now vm_case.now va_case.now)
+        (slacks_of slacks.now va_slacks.now)
+        (generators_of gen_bus.now qmin.now qmax.now)
+        (branches_of br_from.now br_to.now)
+        (triplets_of y_row.now y_col.now y_re.now y_im.now) in
+        RoomFor rows t }
+    ensures { let t : Network = network_of
+        (buses_of kind.now vm_set.now pd.now qd.now pg.now qg.now vm_case.now va_case.now)
+        (slacks_of slacks.now va_slacks.now)
+        (generators_of gen_bus.now qmin.now qmax.now)
+        (branches_of br_from.now br_to.now)
+        (triplets_of y_row.now y_col.now y_re.now y_im.now) in
+        let o : Outs = outs vm.old va.old p.old q.old kinds.old in
+        let space : List Float = w.old in
+        answer (paper_of result) (outs vm.new va.new p.new q.new kinds.new)
+        w.new ≡ solve_of start (first_rows rows t) o space }
 {
     let b = rows.buses;
     let r = rows.slacks;

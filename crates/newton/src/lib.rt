@@ -115,10 +115,10 @@ fn measure(
     qg: [f64; 32],
     p: Point,
 ) -> Measured
-    ghost g: { Problem }
-    requires qg_value { problem (triplets_of y_row.now y_col.now y_re.now y_im.now) layout pd.now qd.now pg.now qg ≡ g }
-    requires good_problem { GoodProblem g }
-    ensures { result ≡ measured_of g p }
+    requires { let g : Problem = problem (triplets_of y_row.now y_col.now y_re.now y_im.now) layout pd.now qd.now pg.now qg in
+        GoodProblem g }
+    ensures { let g : Problem = problem (triplets_of y_row.now y_col.now y_re.now y_im.now) layout pd.now qd.now pg.now qg in
+        result ≡ measured_of g p }
 {
     let n = layout.n;
     let dim = layout.dim;
@@ -162,10 +162,10 @@ fn direction(
     m: Measured,
     w: &mut [f64],
 ) -> Solution
-    ghost y: { Triplets }
-    requires y_im_value { triplets_of y_row.now y_col.now y_re.now y_im.now ≡ y }
-    requires good_triplets { GoodTriplets layout.n y × (layout.dim ≤ 64) × (4160 ≤ length w.old) }
-    ensures { outcome result w.new ≡ direction_of y layout va m w.old }
+    requires { let y : Triplets = triplets_of y_row.now y_col.now y_re.now y_im.now in
+        GoodTriplets layout.n y × (layout.dim ≤ 64) × (4160 ≤ length w.old) }
+    ensures { let y : Triplets = triplets_of y_row.now y_col.now y_re.now y_im.now in
+        outcome result w.new ≡ direction_of y layout va m w.old }
 {
     let n = layout.n;
     let dim = layout.dim;
@@ -195,10 +195,10 @@ fn attempt(
     w: &[f64],
     alpha: f64,
 ) -> Trial
-    ghost g: { Problem }
-    requires qg_value { problem (triplets_of y_row.now y_col.now y_re.now y_im.now) layout pd.now qd.now pg.now qg ≡ g }
-    requires good_problem { GoodProblem g × (4160 ≤ length w.now) }
-    ensures { result ≡ attempt_of (measured_of g) layout p m w.now alpha }
+    requires { let g : Problem = problem (triplets_of y_row.now y_col.now y_re.now y_im.now) layout pd.now qd.now pg.now qg in
+        GoodProblem g × (4160 ≤ length w.now) }
+    ensures { let g : Problem = problem (triplets_of y_row.now y_col.now y_re.now y_im.now) layout pd.now qd.now pg.now qg in
+        result ≡ attempt_of (measured_of g) layout p m w.now alpha }
 {
     let n = layout.n;
     let t = take_step(layout, p, w, alpha);
@@ -239,10 +239,10 @@ fn search(
     m: Measured,
     w: &[f64],
 ) -> Trial
-    ghost g: { Problem }
-    requires qg_value { problem (triplets_of y_row.now y_col.now y_re.now y_im.now) layout pd.now qd.now pg.now qg ≡ g }
-    requires good_problem { GoodProblem g × (4160 ≤ length w.now) }
-    ensures { result ≡ tries_from 12 (measured_of g) layout p m w.now one }
+    requires { let g : Problem = problem (triplets_of y_row.now y_col.now y_re.now y_im.now) layout pd.now qd.now pg.now qg in
+        GoodProblem g × (4160 ≤ length w.now) }
+    ensures { let g : Problem = problem (triplets_of y_row.now y_col.now y_re.now y_im.now) layout pd.now qd.now pg.now qg in
+        result ≡ tries_from 12 (measured_of g) layout p m w.now one }
 {
     let mut alpha = 1.0;
     for k in 0usize..12 {
@@ -287,10 +287,10 @@ pub fn newton(
     start: Point,
     w: &mut [f64],
 ) -> Ended
-    ghost g: { Problem }
-    requires qg_value { problem (triplets_of y_row.now y_col.now y_re.now y_im.now) layout pd.now qd.now pg.now qg ≡ g }
-    requires good_problem { GoodProblem g × (4160 ≤ length w.old) }
-    ensures { run result w.new ≡ newton_of g start w.old }
+    requires { let g : Problem = problem (triplets_of y_row.now y_col.now y_re.now y_im.now) layout pd.now qd.now pg.now qg in
+        GoodProblem g × (4160 ≤ length w.old) }
+    ensures { let g : Problem = problem (triplets_of y_row.now y_col.now y_re.now y_im.now) layout pd.now qd.now pg.now qg in
+        run result w.new ≡ newton_of g start w.old }
 {
     let mut p = start;
     let mut m = measure(y_row, y_col, y_re, y_im, layout, pd, qd, pg, qg, p);

@@ -121,10 +121,12 @@ fn write_answer(
     q: &mut [f64],
     kinds: &mut [u8],
 )
-    ghost { Triplets × Outs }
-    requires* kinds_value { λ α. ⌜ (triplets_of y_row.now y_col.now y_re.now y_im.now, outs vm.old va.old p.old q.old kinds.old) ≡ α ⌝ }
-    requires* fact { λ (y, o). ⌜ GoodTriplets n y × OnePerBus n (lengths_in o) ⌝ }
-    ensures* { λ (y, o) _. ⌜ outs vm.new va.new p.new q.new kinds.new ≡ with_answer n y point kept o ⌝ }
+    requires { let y : Triplets = triplets_of y_row.now y_col.now y_re.now y_im.now in
+        let o : Outs = outs vm.old va.old p.old q.old kinds.old in
+        GoodTriplets n y × OnePerBus n (lengths_in o) }
+    ensures { let y : Triplets = triplets_of y_row.now y_col.now y_re.now y_im.now in
+        let o : Outs = outs vm.old va.old p.old q.old kinds.old in
+        outs vm.new va.new p.new q.new kinds.new ≡ with_answer n y point kept o }
 {
     let letters = moves::letters(n, kept);
     let vms = point.vm;
@@ -165,11 +167,13 @@ pub fn write(
     q: &mut [f64],
     kinds: &mut [u8],
 ) -> Outcome
-    ghost { Triplets × Outs }
-    requires* kinds_value { λ α. ⌜ (triplets_of y_row.now y_col.now y_re.now y_im.now, outs vm.old va.old p.old q.old kinds.old) ≡ α ⌝ }
-    requires* fact { λ (y, o). ⌜ GoodTriplets n y × OnePerBus n (lengths_in o) ⌝ }
-    ensures* { λ (y, o) r. ⌜ written (paper_of r) (outs vm.new va.new p.new q.new kinds.new)
-        ≡ write_of n y found point kept o ⌝ }
+    requires { let y : Triplets = triplets_of y_row.now y_col.now y_re.now y_im.now in
+        let o : Outs = outs vm.old va.old p.old q.old kinds.old in
+        GoodTriplets n y × OnePerBus n (lengths_in o) }
+    ensures { let y : Triplets = triplets_of y_row.now y_col.now y_re.now y_im.now in
+        let o : Outs = outs vm.old va.old p.old q.old kinds.old in
+        written (paper_of result) (outs vm.new va.new p.new q.new kinds.new)
+        ≡ write_of n y found point kept o }
 {
     match found {
         AcPf::Solved {

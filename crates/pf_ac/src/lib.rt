@@ -133,10 +133,10 @@ fn search(
     flat: Point,
     w: &mut [f64],
 ) -> Kept
-    ghost s: { Study }
-    requires vm_hold_value { study n (triplets_of y_row.now y_col.now y_re.now y_im.now) pd.now qd.now pg.now qg limits vm_hold ≡ s }
-    requires good_study { GoodStudy s × (4160 ≤ length w.old) }
-    ensures { searched result.found result.best w.new ≡ search_of start s kinds first flat w.old }
+    requires { let s : Study = study n (triplets_of y_row.now y_col.now y_re.now y_im.now) pd.now qd.now pg.now qg limits vm_hold in
+        GoodStudy s × (4160 ≤ length w.old) }
+    ensures { let s : Study = study n (triplets_of y_row.now y_col.now y_re.now y_im.now) pd.now qd.now pg.now qg limits vm_hold in
+        searched result.found result.best w.new ≡ search_of start s kinds first flat w.old }
 {
     let count = start_count(start);
     let mut best = qlim::nothing(first);
@@ -199,15 +199,20 @@ pub fn ac_pf_with_start(
     start: AcStart,
     w: &mut [f64],
 ) -> Kept
-    ghost t: { Network }
-    requires y_im_value { network_of
+    requires { let t : Network = network_of
         (buses_of kind.now vm_set.now pd.now qd.now pg.now qg.now vm_case.now va_case.now)
         (slacks_of slacks.now va_slacks.now)
         (generators_of gen_bus.now qmin.now qmax.now)
         (branches_of br_from.now br_to.now)
-        (triplets_of y_row.now y_col.now y_re.now y_im.now) ≡ t }
-    requires well_indexed { WellIndexed t × (4160 ≤ length w.old) }
-    ensures { searched result.found result.best w.new ≡ ac_pf_of start t w.old }
+        (triplets_of y_row.now y_col.now y_re.now y_im.now) in
+        WellIndexed t × (4160 ≤ length w.old) }
+    ensures { let t : Network = network_of
+        (buses_of kind.now vm_set.now pd.now qd.now pg.now qg.now vm_case.now va_case.now)
+        (slacks_of slacks.now va_slacks.now)
+        (generators_of gen_bus.now qmin.now qmax.now)
+        (branches_of br_from.now br_to.now)
+        (triplets_of y_row.now y_col.now y_re.now y_im.now) in
+        searched result.found result.best w.new ≡ ac_pf_of start t w.old }
 {
     let n = kind.len();
     let kinds = layout::default_kinds(n, kind, slacks);

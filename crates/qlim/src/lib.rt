@@ -106,10 +106,10 @@ pub fn solve_qlim(
     start: Point,
     w: &mut [f64],
 ) -> Settled
-    ghost s: { Study }
-    requires vm_hold_value { study n (triplets_of y_row.now y_col.now y_re.now y_im.now) pd.now qd.now pg.now qg limits vm_hold ≡ s }
-    requires good_study { GoodStudy s × (4160 ≤ length w.old) }
-    ensures { done result w.new ≡ qlim_of s default start w.old }
+    requires { let s : Study = study n (triplets_of y_row.now y_col.now y_re.now y_im.now) pd.now qd.now pg.now qg limits vm_hold in
+        GoodStudy s × (4160 ≤ length w.old) }
+    ensures { let s : Study = study n (triplets_of y_row.now y_col.now y_re.now y_im.now) pd.now qd.now pg.now qg limits vm_hold in
+        done result w.new ≡ qlim_of s default start w.old }
 {
     let mut kinds = default;
     let mut t = Track {

@@ -59,21 +59,23 @@ fn solve_branch_rows(
     kinds: &mut [u8],
     w: &mut [f64],
 ) -> Found
-    ghost { BranchNetwork × Outs × List Float }
-    requires* w_value { λ α. ⌜ (
-      branch_network_of
-          (buses_of kind vm_set pd qd pg qg vm_case va_case)
-          (slacks_of slacks va_slacks)
-          (generators_of gen_bus qmin qmax)
-          (branch_table_of (branches_of from to)
-          (values_of g b g_fr b_fr g_to b_to tap shift sw)),
-      outs vm.old va.old p.old q.old kinds.old,
-      w.old,
-    ) ≡ α ⌝ }
-    requires* fact { λ (t, o, space). ⌜ RoomForBranches rows t ⌝ }
-    ensures* { λ (t, o, space) r.
+    requires { let t : BranchNetwork = branch_network_of
+        (buses_of kind vm_set pd qd pg qg vm_case va_case)
+        (slacks_of slacks va_slacks)
+        (generators_of gen_bus qmin qmax)
+        (branch_table_of (branches_of from to)
+        (values_of g b g_fr b_fr g_to b_to tap shift sw)) in
+        RoomForBranches rows t }
+    ensures { let t : BranchNetwork = branch_network_of
+        (buses_of kind vm_set pd qd pg qg vm_case va_case)
+        (slacks_of slacks va_slacks)
+        (generators_of gen_bus qmin qmax)
+        (branch_table_of (branches_of from to)
+        (values_of g b g_fr b_fr g_to b_to tap shift sw)) in
+        let o : Outs = outs vm.old va.old p.old q.old kinds.old in
+        let space : List Float = w.old in
         let e = outs vm.new va.new p.new q.new kinds.new in
-        ⌜ branch_answer (answer (paper_of r.outcome) e w.new) r.flows ≡ solve_branches_of start (first_branch_rows rows t) o blank_flows space ⌝ }
+        branch_answer (answer (paper_of result.outcome) e w.new) result.flows ≡ solve_branches_of start (first_branch_rows rows t) o blank_flows space }
 {
     let n = rows.buses;
     let r = rows.slacks;

@@ -84,18 +84,22 @@ pub fn run(
     start: AcStart,
     w: &mut [f64],
 ) -> Kept
-    ghost { Network × List Float }
-    requires* w_value { λ α. ⌜ (
-      network_of
-          (buses_of kind.now vm_set.now pd.now qd.now pg.now qg.now vm_case.now va_case.now)
-          (slacks_of slacks.now va_slacks.now)
-          (generators_of gen_bus.now qmin.now qmax.now)
-          (branches_of br_from.now br_to.now)
-          (triplets_of y_row.now y_col.now y_re.now y_im.now),
-      w.old,
-    ) ≡ α ⌝ }
-    requires* fact { λ (t, space). ⌜ WellIndexed t × (6144 ≤ length space) ⌝ }
-    ensures* { λ (t, space) r. ⌜ ran r.found r.best w.new ≡ run_of start t space ⌝ }
+    requires { let t : Network = network_of
+        (buses_of kind.now vm_set.now pd.now qd.now pg.now qg.now vm_case.now va_case.now)
+        (slacks_of slacks.now va_slacks.now)
+        (generators_of gen_bus.now qmin.now qmax.now)
+        (branches_of br_from.now br_to.now)
+        (triplets_of y_row.now y_col.now y_re.now y_im.now) in
+        let space : List Float = w.old in
+        WellIndexed t × (6144 ≤ length space) }
+    ensures { let t : Network = network_of
+        (buses_of kind.now vm_set.now pd.now qd.now pg.now qg.now vm_case.now va_case.now)
+        (slacks_of slacks.now va_slacks.now)
+        (generators_of gen_bus.now qmin.now qmax.now)
+        (branches_of br_from.now br_to.now)
+        (triplets_of y_row.now y_col.now y_re.now y_im.now) in
+        let space : List Float = w.old in
+        ran result.found result.best w.new ≡ run_of start t space }
 {
     let r = pf_ac::ac_pf_with_start(
         kind, vm_set, pd, qd, pg, qg, vm_case, va_case, slacks, va_slacks, gen_bus, qmin, qmax,
@@ -134,21 +138,25 @@ pub fn solve_ready(
     kinds: &mut [u8],
     w: &mut [f64],
 ) -> Outcome
-    ghost { Network × Outs × List Float }
-    requires* w_value { λ α. ⌜ (
-      network_of
-          (buses_of kind.now vm_set.now pd.now qd.now pg.now qg.now vm_case.now va_case.now)
-          (slacks_of slacks.now va_slacks.now)
-          (generators_of gen_bus.now qmin.now qmax.now)
-          (branches_of br_from.now br_to.now)
-          (triplets_of y_row.now y_col.now y_re.now y_im.now),
-      outs vm.old va.old p.old q.old kinds.old,
-      w.old,
-    ) ≡ α ⌝ }
-    requires* fact { λ (t, o, space). ⌜ WellIndexed t × OnePerBus (bus_count t) (lengths_in o) × (6144 ≤ length space) ⌝ }
-    ensures* { λ (t, o, space) r.
+    requires { let t : Network = network_of
+        (buses_of kind.now vm_set.now pd.now qd.now pg.now qg.now vm_case.now va_case.now)
+        (slacks_of slacks.now va_slacks.now)
+        (generators_of gen_bus.now qmin.now qmax.now)
+        (branches_of br_from.now br_to.now)
+        (triplets_of y_row.now y_col.now y_re.now y_im.now) in
+        let o : Outs = outs vm.old va.old p.old q.old kinds.old in
+        let space : List Float = w.old in
+        WellIndexed t × OnePerBus (bus_count t) (lengths_in o) × (6144 ≤ length space) }
+    ensures { let t : Network = network_of
+        (buses_of kind.now vm_set.now pd.now qd.now pg.now qg.now vm_case.now va_case.now)
+        (slacks_of slacks.now va_slacks.now)
+        (generators_of gen_bus.now qmin.now qmax.now)
+        (branches_of br_from.now br_to.now)
+        (triplets_of y_row.now y_col.now y_re.now y_im.now) in
+        let o : Outs = outs vm.old va.old p.old q.old kinds.old in
+        let space : List Float = w.old in
         let e = outs vm.new va.new p.new q.new kinds.new in
-        ⌜ answer (paper_of r) e w.new ≡ after_run t o (run_of start t space) ⌝ }
+        answer (paper_of result) e w.new ≡ after_run t o (run_of start t space) }
 {
     let n = kind.len();
     let r = run(

@@ -8,7 +8,6 @@ use Rattle.std.specs.Float.Ieee.{binary64, mul, lt}
 use Rattle.real.specs.Literals.{one, half, tolerance}
 use Rattle.layout.specs.declared.AcPfLayout.{AcPfLayout}
 use Rattle.linsolve.specs.declared.Solution.{Solution}
-use Rattle.linsolve.specs.declared.Solution.TheVariants as Solution
 use Rattle.linsolve.specs.Linear.{Outcome, outcome, answer_of, space_of, cleared, solution}
 use Rattle.injections.specs.declared.Injections.{Injections}
 use Rattle.network.specs.Network.{Triplets}
