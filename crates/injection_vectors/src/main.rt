@@ -12,8 +12,8 @@ ghost use Rattle.injection_vectors.specs.Told.{triplets_told, place_told, Holds,
 
 use injections::{Column, Injections};
 use layout::AcPfLayout;
-use libc::STDIN_FILENO;
 use real::First;
+use vectors::STDIN_FILENO;
 
 // ---- what is told
 

@@ -6,7 +6,7 @@ ghost use Rattle.std.specs.Prelude.{◌≡◌, ◌+◌, ◌*◌, ◌≤◌, ◌<
 ghost use Rattle.vectors.specs.Words.{word_of, Tells, Found};
 ghost use Rattle.linsolve_vectors.specs.Told.{size_of, slot_of, mark_of, told_of, Holds, number_of, Agrees};
 
-use libc::STDIN_FILENO;
+use vectors::STDIN_FILENO;
 
 fn size(dim: usize) -> usize
     requires { dim ≤ 64 }

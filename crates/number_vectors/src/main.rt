@@ -6,7 +6,7 @@ ghost use Rattle.std.specs.Prelude.{◌+◌, ◌*◌, ◌≤◌, length};
 ghost use Rattle.number_vectors.specs.Vectors.{SinCosHolds, MixHolds, Holds, Agreeing};
 ghost use Rattle.vectors.specs.Words.{Tells};
 
-use libc::{STDIN_FILENO, STDOUT_FILENO};
+use vectors::{STDIN_FILENO, STDOUT_FILENO};
 
 fn sin_cos_holds(s: &[u8], at: usize) -> bool
     requires { at + 24 ≤ length s.now }

@@ -6,7 +6,9 @@ ghost use Rattle.std.specs.Prelude.{◌≡◌, length};
 ghost use Rattle.vectors.specs.Words.{Tells, Found};
 ghost use Rattle.replay.specs.Replay.{bytes_of, Answered};
 
-use libc::STDOUT_FILENO;
+use std::fs::File;
+use std::os::fd::AsRawFd;
+use vectors::STDOUT_FILENO;
 
 // Whether two lists of bytes are one.
 fn same(a: &[u8], b: &[u8]) -> bool
@@ -89,8 +91,9 @@ fn sum_up(found: u64, done: u64, differing: u64) {
     vectors::sum_up(b"texts", done, differing);
 }
 
-fn main() {
-    let fd = os::open_read(b"texts");
+fn main(rt: HostRuntime) -> std::io::Result<()> {
+    let list = File::open(&rt, "texts")?;
+    let fd = list.as_raw_fd();
     let mut front = [0u8; 4];
     let mut texts = io::large_buffer();
     let mut answers = io::large_buffer();
@@ -112,6 +115,6 @@ fn main() {
         differing += found;
         done += 1;
     }
-    libc::close(fd);
     sum_up(found, done, differing);
+    Ok(())
 }

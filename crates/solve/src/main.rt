@@ -1,7 +1,10 @@
 // The solve program: a case text on standard input, its report on standard output.
 #![tactic(auto)]
 
-use libc::{STDIN_FILENO, STDOUT_FILENO};
+// The numbers of standard input and output.
+const STDIN_FILENO: i32 = 0;
+
+const STDOUT_FILENO: i32 = 1;
 
 fn main() {
     // one byte more than a case may have: enough to know that it is too long

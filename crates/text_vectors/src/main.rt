@@ -13,9 +13,9 @@ ghost use Rattle.reader.specs.Reader.{columns_of, read_of};
 ghost use Rattle.text_vectors.specs.Told.{number_in, place_of, refusal, rows_in, branch_rows, triplet_rows, rows_told, edition_by, paper_told, width_told, word_told, numbers_told, reals_told};
 ghost use Rattle.text_vectors.specs.Told.{buses_told, slacks_told, generators_told, branches_told, triplets_told, values_told, network_marks, Agrees, table_in, RestAgrees};
 
-use libc::STDIN_FILENO;
 use starts::AcStart;
 use trailer::Edition;
+use vectors::STDIN_FILENO;
 
 // The record is s throughout, with room for any: a start and rows of two bytes each lead no further than 65,535 + 65,536 * 8. j counts the columns in read_case's order.
 

@@ -6,7 +6,10 @@ ghost use Rattle.std.specs.Float.{binary64};
 ghost use Rattle.std.specs.Float.Ieee.{of_bits};
 ghost use Rattle.vectors.specs.Words.{pair_of, word_of, double_at, Tells, agreement_of};
 
-use libc::STDOUT_FILENO;
+// The numbers of standard input and output.
+pub const STDIN_FILENO: i32 = 0;
+
+pub const STDOUT_FILENO: i32 = 1;
 
 // A byte as a word.
 pub fn wide(x: u8) -> u64
