@@ -1,0 +1,14 @@
+-- `injection_vectors::doubles_into` meets its contract: the places passed hold what is told. Assumes nothing.
+use native.Mathlib.Omega.{arith}
+use Rattle.real.specs.Literals.{nought}
+use Rattle.injection_vectors.proofs.Agreement.{writing-none, writing-next, writing-all}
+use Rattle.injection_vectors.proofs.doubles_into.Goals as goal
+
+pub loop-k-init : goal.loop-k-init
+loop-k-init c = writing-none
+
+pub loop-k-preserved : goal.loop-k-preserved
+loop-k-preserved c = writing-next c.loop-k.invariant (omega arith) c.double_at.ensures
+
+pub returns : goal.returns
+returns c = writing-all nought c.loop-k.invariant (omega arith)
