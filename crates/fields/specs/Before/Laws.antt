@@ -13,7 +13,6 @@ use Rattle.fields.specs.Real.Laws.{too_many, few-counted, few-decimals}
 use Rattle.fields.specs.Decimal.{wholes, decimals}
 use Rattle.fields.specs.Before.{allowed_before, Spared}
 use Rattle.fields.specs.declared.Real.{Real}
-use Rattle.fields.specs.declared.Real.TheVariants as Real
 
 -- ---- what 01's rule takes, 02's takes
 

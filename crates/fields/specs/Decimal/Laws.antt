@@ -22,7 +22,6 @@ use Rattle.fields.specs.Real.{allowed, value_of, negated_of, amount_by, pointed_
 use Rattle.fields.specs.Real.Laws.{no-digits, too_many, not-whole, not-decimals, few-decimals, number_small}
 use Rattle.fields.specs.Decimal.{has_minus, wholes, decimals, numerator, denominator}
 use Rattle.fields.specs.declared.Real.{Real}
-use Rattle.fields.specs.declared.Real.TheVariants as Real
 
 -- ---- a quotient of whole doubles is rounded once
 

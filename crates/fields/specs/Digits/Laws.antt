@@ -10,7 +10,6 @@ use Rattle.real.specs.Tests.{decided, no-case, and_left, and_right}
 use Rattle.fields.specs.Cut.Laws.{slice-step}
 use Rattle.fields.specs.Digits.{limited_of, digits_of, digits, digit, number, counted}
 use Rattle.fields.specs.declared.Digits.{Digits}
-use Rattle.fields.specs.declared.Digits.TheVariants as Digits
 
 -- ---- from a place on: a byte that is no digit, a digit too many, a digit, the end
 
