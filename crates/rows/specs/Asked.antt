@@ -4,9 +4,7 @@ use Rattle.fields.specs.Cut.{only}
 use Rattle.fields.specs.Digits.{bus_of, is_number}
 use Rattle.fields.specs.Real.{DigitRule, allowed, real_by, or_nan_by, is_real}
 use Rattle.rows.specs.declared.Section.{Section}
-use Rattle.rows.specs.declared.Section.TheVariants as Section
 use Rattle.rows.specs.declared.Want.{Want}
-use Rattle.rows.specs.declared.Want.TheVariants as Want
 
 -- the letters B, R, G, L, Y, and K
 abbrev pub section_letter : Section → ℕ

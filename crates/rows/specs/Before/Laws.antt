@@ -22,9 +22,7 @@ use Rattle.rows.specs.Printed.Laws.{join, join-pieces, line-printed}
 use Rattle.rows.specs.Before.{Behind, Freed, Moved}
 use Rattle.rows.specs.declared.Section.{Section}
 use Rattle.rows.specs.declared.Want.{Want}
-use Rattle.rows.specs.declared.Want.TheVariants as Want
 use Rattle.rows.specs.declared.Check.{Check}
-use Rattle.rows.specs.declared.Check.TheVariants as Check
 
 -- ---- a field
 

@@ -13,7 +13,6 @@ use Rattle.fields.specs.Cut.Laws.{only-is, found, slice-some, slice-none}
 use Rattle.rows.specs.Asked.{section_letter, want_of, good_of}
 use Rattle.rows.specs.Line.{all_some, spaced_of, form_of, fields_by, fields_of, tail}
 use Rattle.rows.specs.declared.Section.{Section}
-use Rattle.rows.specs.declared.Section.TheVariants as Section
 use Rattle.rows.specs.declared.Want.{Want}
 use Rattle.rows.specs.declared.Check.TheVariants as Check
 

@@ -20,7 +20,6 @@ use Rattle.rows.specs.Rows.Laws.{pieces-some}
 use Rattle.rows.specs.Printed.{spread, fields_in, field_table, printed}
 use Rattle.rows.specs.declared.Section.{Section}
 use Rattle.rows.specs.declared.Check.{Check}
-use Rattle.rows.specs.declared.Check.TheVariants as Check
 
 -- ---- the pieces between the x's, and the x's, are the list
 

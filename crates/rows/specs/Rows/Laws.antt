@@ -15,7 +15,6 @@ use Rattle.rows.specs.Line.{line_of}
 use Rattle.rows.specs.Rows.{after, section_by, section_of, ended, rows_of}
 use Rattle.rows.specs.declared.Section.{Section}
 use Rattle.rows.specs.declared.Check.{Check}
-use Rattle.rows.specs.declared.Check.TheVariants as Check
 
 never-none : (b : ℕ) (ps : List (List ℕ)) → empty (onto b ps) ≡ false
 never-none b [] = refl
