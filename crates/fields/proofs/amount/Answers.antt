@@ -1,4 +1,5 @@
 -- `fields::amount` meets its contract: the ways are those of the definition, since no more than 15 digits count exactly where the number is below 10^15.
+-- Assumes nothing.
 use mathlib.Core.Path.{◌≡◌, sym, ap, ◌∙◌}
 use Prim.Native.Nat.{◌-◌}
 use native.Mathlib.Omega.{arith}
@@ -10,7 +11,6 @@ use Rattle.fields.specs.Real.Laws.{no-digits, many-decimals, whole-wrong, rest-w
 use Rattle.fields.specs.declared.Real.TheVariants as Real
 use Rattle.fields.proofs.amount.Goals as goal
 
--- Assumes nothing.
 pub returns-then-a-b : goal.returns-then-a-b
 returns-then-a-b c =
     let a = c.args in
