@@ -11,9 +11,7 @@ use borrow.Author.Tests.{eqb-true, leb-true, le-leb, lt-leb}
 use Rattle.real.specs.Tests.{and_left, and_right, decided, no-case}
 use Rattle.fields.specs.Digits.{is_number}
 use Rattle.fields.specs.declared.Digits.{Digits}
-use Rattle.fields.specs.declared.Digits.TheVariants as Digits
 use Rattle.rows.specs.declared.Section.{Section}
-use Rattle.rows.specs.declared.Section.TheVariants as Section
 use Rattle.trailer.specs.Trailer.{groups_of, trailer_length, trailer_start, group_at, start_at, group_number, rising_of, flagged, edition_of, trailer_by, trailer_of, index_of, behind_g, last_of, Starts, section_start, section_end}
 use Rattle.trailer.specs.declared.Edition.{Edition}
 use Rattle.trailer.specs.declared.Edition.TheVariants.{First, Second}
