@@ -8,7 +8,6 @@ use Rattle.fields.specs.Before.Laws.{or-nan-kept}
 use Rattle.rows.specs.Asked.{field_count, want_of}
 use Rattle.rows.specs.Rows.{rows_of}
 use Rattle.rows.specs.declared.Section.{Section}
-use Rattle.rows.specs.declared.Section.TheVariants as Section
 use Rattle.network.specs.Network.{Buses, Slacks, Generators, Triplets, buses_of, slacks_of, generators_of, triplets_of}
 use Rattle.columns.specs.Columns.{row_count, cell_of, real_field_by, real_field, number_field, kind_field, column_of, filled, buses_by, slacks_by, generators_by, triplets_by}
 use Rattle.columns.specs.Figures.{Reals, RowsSound, figure-read}

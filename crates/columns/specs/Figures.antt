@@ -9,7 +9,6 @@ use Rattle.fields.specs.Real.{DigitRule, allowed, or_nan_by, or_nan_of, is_real,
 use Rattle.fields.specs.Decimal.{has_minus, numerator, denominator}
 use Rattle.fields.specs.Decimal.Laws.{real-nearest}
 use Rattle.fields.specs.declared.Real.{Real}
-use Rattle.fields.specs.declared.Real.TheVariants as Real
 use Rattle.rows.specs.Asked.{field_count, want_of, good_by}
 use Rattle.rows.specs.Line.{tail}
 use Rattle.rows.specs.Rows.{rows_of}
@@ -17,7 +16,6 @@ use Rattle.rows.specs.Printed.{fields_in, field_table}
 use Rattle.rows.specs.Printed.Laws.{SoundBy}
 use Rattle.rows.specs.declared.Section.{Section}
 use Rattle.rows.specs.declared.Want.{Want}
-use Rattle.rows.specs.declared.Want.TheVariants as Want
 use Rattle.columns.specs.Columns.{row_count, cell_of, real_field}
 
 -- a real is asked
