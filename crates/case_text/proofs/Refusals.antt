@@ -1,28 +1,23 @@
 -- A refusal has its number and place in 01's table and is handed on by everything that follows it; a good section leads on. Assumes nothing.
 use mathlib.Core.Path.{◌≡◌, refl}
 use mathlib.Core.Bool.{cond}
-use mathlib.Core.List.{List, [], ◌∷◌}
+use mathlib.Core.List.{[], ◌∷◌}
 use Prim.Native.Nat.{ℕ, ◌<◌}
 use native.Mathlib.Omega.{arith}
 use lib.Dec.{eqb}
-use types.Run.{OneOf, miss}
-use denote.Enum.Declared.{tag_of}
 use Rattle.real.specs.declared.Value.TheVariants.{Whole}
 use Rattle.real.specs.Paper.{refused}
-use Rattle.rows.specs.contracts.Check.{the_type as check-type}
 use Rattle.rows.specs.declared.Check.{Check}
-use Rattle.rows.specs.declared.Check.TheVariants as Check
-use Rattle.case_text.specs.contracts.Reading.{the_type as reading-type}
 use Rattle.case_text.specs.Text.{then_section, section_refusal}
 use Rattle.case_text.specs.Answer.{with_room, result_of, read_result, paper_of}
 use Rattle.network.specs.declared.Rows.{Rows}
+use Rattle.case_text.specs.declared.Contents.{Contents}
 use Rattle.case_text.specs.declared.Reading.{Reading}
-use Rattle.case_text.specs.declared.Reading.TheVariants as Reading
 
 -- ---- a section's
 
-pub refusal : (v : Check) (k : ℕ → Reading) → OneOf (1 ∷ 2 ∷ 3 ∷ []) (tag_of check-type v) → then_section v k ≡ section_refusal v
-refusal (Check.Good n) k h = absurd (miss (1 ∷ 2 ∷ 3 ∷ []) 0 tt h)
+pub refusal : (v : Check) (k : ℕ → Reading) → ((n : ℕ) → v ≡ Check.Good n → ⊥) → then_section v k ≡ section_refusal v
+refusal (Check.Good n) k h = absurd (h n refl)
 refusal (Check.Rows n) k h = refl
 refusal (Check.Form n) k h = refl
 refusal (Check.Field n) k h = refl
@@ -34,11 +29,11 @@ on-good k e h = rw (← e, h)
 -- ---- the text's
 
 abbrev pub Refused : Reading → Type 0
-Refused v = OneOf (1 ∷ 2 ∷ 3 ∷ 4 ∷ 5 ∷ 6 ∷ 7 ∷ []) (tag_of reading-type v)
+Refused v = (c : Contents) → v ≡ Reading.Good c → ⊥
 
 -- 01's table of it: its number, and the place beside all but 9
 pub refused-paper : (v : Reading) → Refused v → (n : ℕ) × (at : ℕ) × (0 < n) × (paper_of v ≡ refused n (cond (eqb n 9) [] (Whole at ∷ [])))
-refused-paper (Reading.Good c) h = absurd (miss (1 ∷ 2 ∷ 3 ∷ 4 ∷ 5 ∷ 6 ∷ 7 ∷ []) 0 tt h)
+refused-paper (Reading.Good c) h = absurd (h c refl)
 refused-paper (Reading.Length at) h = (1, at, omega arith, refl)
 refused-paper (Reading.Trailer at) h = (2, at, omega arith, refl)
 refused-paper (Reading.Byte at) h = (3, at, omega arith, refl)

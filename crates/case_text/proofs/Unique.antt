@@ -15,7 +15,6 @@ use Rattle.case_text.specs.Answer.{paper_of, judged_of, ReadResult, read_result,
 use Rattle.case_text.specs.Answer.Laws.{with_room_lem}
 use Rattle.case_text.specs.declared.Contents.{Contents}
 use Rattle.case_text.specs.declared.Reading.{Reading}
-use Rattle.case_text.specs.declared.Reading.TheVariants as Reading
 
 -- ---- 01's number and values tell the answers apart
 

@@ -20,7 +20,6 @@ use Rattle.case_text.specs.Answer.{read_result, paper_of, with_room, result_of, 
 use Rattle.case_text.specs.Printed.Laws.{group-digits}
 use Rattle.case_text.specs.declared.Contents.{Contents}
 use Rattle.case_text.specs.declared.Reading.{Reading}
-use Rattle.case_text.specs.declared.Reading.TheVariants as Reading
 
 -- ---- a byte 32 from the end that is `f` or `c` stands where a first-edition trailer has a digit
 

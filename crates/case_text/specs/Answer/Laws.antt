@@ -15,7 +15,6 @@ use Rattle.fields.specs.Real.{allowed}
 use Rattle.rows.specs.Asked.{size_of}
 use Rattle.rows.specs.Printed.Laws.{section-rows, section-most}
 use Rattle.rows.specs.declared.Section.{Section}
-use Rattle.rows.specs.declared.Section.TheVariants as Section
 use Rattle.rows.specs.declared.Check.TheVariants as Check
 use Rattle.columns.specs.Columns.{row_count}
 use Rattle.trailer.specs.Trailer.{trailer_start, trailer_of, behind_g, last_of, section_start, section_end, bytes_of, places_of}
@@ -24,12 +23,11 @@ use Rattle.trailer.specs.declared.Edition.{Edition}
 use Rattle.trailer.specs.declared.Edition.TheVariants.{First, Second}
 use Rattle.case_text.specs.Text.{part_by, part_of, triplet_part_of, checked_text}
 use Rattle.case_text.specs.Text.Laws.{Accepted, accepted-has}
-use Rattle.case_text.specs.Answer.{with_room, judged_of, filled_from, branches_from, tables_by, branch_tables_by, filled_of, branch_filled_of, ReadResult, read_result, paper_of, result_of}
+use Rattle.case_text.specs.Answer.{with_room, judged_of, filled_from, branches_from, tables_by, branch_tables_by, filled_of, branch_filled_of, read_result, paper_of, result_of}
 use Rattle.case_text.specs.Answer.{read_first_by, read_first, read_second_by, read_second}
 use Rattle.case_text.specs.declared.Contents.{Contents}
 use Rattle.trailer.specs.declared.Places.{Places}
 use Rattle.case_text.specs.declared.Reading.{Reading}
-use Rattle.case_text.specs.declared.Reading.TheVariants as Reading
 
 -- ---- a good answer: the text is accepted, and its rows fit
 

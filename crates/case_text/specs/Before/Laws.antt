@@ -17,9 +17,7 @@ use Rattle.rows.specs.Printed.Laws.{section-sound}
 use Rattle.rows.specs.Before.{Behind, Moved}
 use Rattle.rows.specs.Before.Laws.{section-behind, check-before}
 use Rattle.rows.specs.declared.Section.{Section}
-use Rattle.rows.specs.declared.Section.TheVariants as Section
 use Rattle.rows.specs.declared.Check.{Check}
-use Rattle.rows.specs.declared.Check.TheVariants as Check
 use Rattle.columns.specs.Columns.{filled_branches}
 use Rattle.columns.specs.Figures.{RowsSound}
 use Rattle.columns.specs.Before.{buses-kept, slacks-kept, generators-kept, triplets-kept}
@@ -35,7 +33,6 @@ use Rattle.case_text.specs.Old.{accepted-first}
 use Rattle.case_text.specs.Before.{BehindText, MovedText}
 use Rattle.case_text.specs.declared.Contents.{Contents}
 use Rattle.case_text.specs.declared.Reading.{Reading}
-use Rattle.case_text.specs.declared.Reading.TheVariants as Reading
 
 -- the same reading, or one that is moved
 abbrev pub SameOrMoved : List ℕ → ℕ → Reading → Reading → Type 0

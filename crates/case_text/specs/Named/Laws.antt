@@ -10,11 +10,9 @@ use Rattle.network.specs.BranchTable.Laws.{room-branch-table}
 use Rattle.network.specs.Missing.{missing_in, LowestRow, LowestEnd, Means}
 use Rattle.network.specs.Missing.Laws.{missing-means}
 use Rattle.network.specs.declared.Naming.{Naming}
-use Rattle.network.specs.declared.Naming.TheVariants as Naming
 use Rattle.network.specs.declared.MissingBus.TheVariants as MissingBus
 use Rattle.rows.specs.Rows.{rows_of}
 use Rattle.rows.specs.declared.Section.{Section}
-use Rattle.rows.specs.declared.Section.TheVariants as Section
 use Rattle.columns.specs.Columns.{number_field, column_of}
 use Rattle.columns.specs.Columns.Laws.{rows-are-lines, number-of-line}
 use Rattle.trailer.specs.Trailer.{behind_g, bytes_of}

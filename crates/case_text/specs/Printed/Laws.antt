@@ -15,11 +15,10 @@ use Rattle.rows.specs.Rows.{rows_of}
 use Rattle.rows.specs.Printed.{field_table}
 use Rattle.rows.specs.Printed.Laws.{section-printed, section-sound, SoundBy}
 use Rattle.rows.specs.declared.Section.{Section}
-use Rattle.rows.specs.declared.Section.TheVariants as Section
 use Rattle.rows.specs.declared.Check.TheVariants as Check
 use Rattle.columns.specs.Columns.{row_count, cell_of, real_field}
 use Rattle.columns.specs.Figures.{Reals, figure-nearest}
-use Rattle.trailer.specs.Trailer.{groups_of, width_of, trailer_length, trailer_start, edition_of, group_at, start_at, rising_of, trailer_of, index_of, behind_g, last_of, Starts, section_start, section_end, bytes_of}
+use Rattle.trailer.specs.Trailer.{groups_of, width_of, trailer_length, trailer_start, edition_of, group_at, start_at, rising_of, trailer_of, index_of, behind_g, Starts, section_start, section_end, bytes_of}
 use Rattle.trailer.specs.Trailer.Laws.{first_group, groups-after, GoodTrailer, good-trailer, rising, Within, within, starts-b, starts-r, starts-g, starts-behind-g, starts-last, g-meets}
 use Rattle.trailer.specs.declared.Edition.{Edition}
 use Rattle.trailer.specs.declared.Edition.TheVariants.{First, Second}

@@ -9,7 +9,6 @@ use Rattle.real.specs.Paper.{Paper, given, refused}
 use Rattle.fields.specs.Real.{DigitRule, allowed}
 use Rattle.rows.specs.declared.Section.TheVariants as Section
 use Rattle.rows.specs.declared.Check.{Check}
-use Rattle.rows.specs.declared.Check.TheVariants as Check
 use Rattle.case_text.specs.Alphabet.{known_of}
 use Rattle.trailer.specs.Trailer.{trailer_length, trailer_start, mode_of, trailer_of, behind_g}
 use Rattle.trailer.specs.declared.Edition.{Edition}
@@ -17,7 +16,6 @@ use Rattle.case_text.specs.Text.{then_section, part_by, triplet_part_by, after_y
 use Rattle.case_text.specs.Answer.{paper_of}
 use Rattle.case_text.specs.declared.Contents.{Contents}
 use Rattle.case_text.specs.declared.Reading.{Reading}
-use Rattle.case_text.specs.declared.Reading.TheVariants as Reading
 
 -- P of the tables, where there are any; a refusal is not 9
 abbrev pub Where : (Contents → Type 0) → Paper Contents → Type 0
