@@ -1,6 +1,6 @@
 -- `editions::read_branches` meets its contract: a refusal leaves the columns as they were; a good text's sections lie where its trailer says, its rows
 -- fit, and each table is written by its own call. Assumes nothing.
-use mathlib.Core.Path.{◌≡◌, refl, sym, ap, ◌∙◌}
+use mathlib.Core.Path.{◌≡◌, sym, ap, ◌∙◌}
 use Prim.Native.Nat.{ℕ, min}
 use lib.ListN.{length}
 use Rattle.network.specs.declared.Rows.{Rows}
@@ -55,17 +55,17 @@ section_places-p-requires c =
 pub fill_buses-requires : goal.fill_buses-requires
 fill_buses-requires c =
     let w = (found (goal.at.fill_buses-requires c).After-section_places-p).shared in
-    (refl, (w.br, (ends w).0, w.bus_rows))
+    (w.br, (ends w).0, w.bus_rows)
 
 pub fill_sources-requires : goal.fill_sources-requires
 fill_sources-requires c =
     let w = (found (goal.at.fill_sources-requires c).After-section_places-p).shared in
-    (refl, (w.rg, w.gl, (ends w).1, w.slack_rows, w.generator_rows))
+    (w.rg, w.gl, (ends w).1, w.slack_rows, w.generator_rows)
 
 pub fill_branch_table-requires : goal.fill_branch_table-requires
 fill_branch_table-requires c =
     let w = found (goal.at.fill_branch_table-requires c).After-section_places-p in
-    (refl, (w.shared.ly, (ends w.shared).2, w.table))
+    (w.shared.ly, (ends w.shared).2, w.table)
 
 pub returns : goal.returns
 returns c =

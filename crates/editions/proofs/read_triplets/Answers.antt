@@ -1,6 +1,6 @@
 -- `editions::read_triplets` meets its contract: a refusal leaves the columns as they were; a good text's sections lie where its trailer says, its rows
 -- fit, and each column is written by its own call. Assumes nothing.
-use mathlib.Core.Path.{◌≡◌, refl, sym, ap, ◌∙◌}
+use mathlib.Core.Path.{◌≡◌, sym, ap, ◌∙◌}
 use Prim.Native.Nat.{ℕ, min}
 use lib.ListN.{length}
 use Rattle.network.specs.declared.Rows.{Rows}
@@ -53,17 +53,17 @@ section_places-p-requires c =
 pub fill_buses-requires : goal.fill_buses-requires
 fill_buses-requires c =
     let w = (found (goal.at.fill_buses-requires c).After-section_places-p).shared in
-    (refl, (w.br, (ends w).0, w.bus_rows))
+    (w.br, (ends w).0, w.bus_rows)
 
 pub fill_sources-requires : goal.fill_sources-requires
 fill_sources-requires c =
     let w = (found (goal.at.fill_sources-requires c).After-section_places-p).shared in
-    (refl, (w.rg, w.gl, (ends w).1, w.slack_rows, w.generator_rows))
+    (w.rg, w.gl, (ends w).1, w.slack_rows, w.generator_rows)
 
 pub fill_lines-requires : goal.fill_lines-requires
 fill_lines-requires c =
     let w = found (goal.at.fill_lines-requires c).After-section_places-p in
-    (refl, (w.shared.ly, w.shared.yt, w.shared.end, w.branches, w.triplets))
+    (w.shared.ly, w.shared.yt, w.shared.end, w.branches, w.triplets)
 
 pub returns : goal.returns
 returns c =
