@@ -5,14 +5,12 @@ use mathlib.Core.Bool.{false}
 use mathlib.Core.List.{List, [], ◌∷◌}
 use types.Run.{OneOf, miss}
 use denote.Enum.Declared.{tag_of}
-use borrow.Author.Rules.{rules}
 use Rattle.real.specs.Paper.{is_given}
 use Rattle.outcome.specs.contracts.Outcome.{the_type}
 use Rattle.outcome.specs.declared.Outcome.{Outcome}
 use Rattle.outcome.specs.declared.Outcome.TheVariants.{Solved, Counts, Room, Slack, Generator, Branch, Triplet, Tap, Ends, NotConverged}
 use Rattle.outcome.specs.Outcome.{paper_of}
-use Rattle.outcome.proofs.solved.Statement.{statement}
-use Rattle.outcome.proofs.solved.Tie as tie
+use Rattle.outcome.proofs.solved.Goals as goal
 
 abbrev refusals : List ℕ
 refusals = 1 ∷ 2 ∷ 3 ∷ 4 ∷ 5 ∷ 6 ∷ 7 ∷ 8 ∷ 9 ∷ []
@@ -29,5 +27,5 @@ refused (Tap row) h = refl
 refused (Ends row) h = refl
 refused (NotConverged mismatch starts) h = refl
 
-pub solved-spec : {M : Type 1} → statement M
-solved-spec = tie.close (tie.spec (λ c. search rules) (λ c. rw c.enum_told.given.1) (λ c. refused c.before.args.r c.match.keys2))
+pub returns-in-Solved : goal.returns-in-Solved
+returns-in-Solved c = rw c.in-Solved.is
