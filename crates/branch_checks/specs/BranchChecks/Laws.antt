@@ -5,9 +5,7 @@ use Rattle.std.proofs.Math.Path.{refl, sym, ap}
 use Rattle.std.proofs.Common.{◌∙◌, not-suc-le-zero}
 use Rattle.real.specs.Tests.{no-case, both_r}
 use Rattle.network.specs.declared.Naming.{Naming}
-use Rattle.network.specs.declared.Naming.TheVariants as Naming
 use Rattle.network.specs.declared.MissingBus.{MissingBus}
-use Rattle.network.specs.declared.MissingBus.TheVariants as MissingBus
 use Rattle.network.specs.Network.{Network}
 use Rattle.network.specs.Checks.{counted}
 use Rattle.network.specs.Checks.Laws.{counted_branches_lem}
@@ -15,11 +13,9 @@ use Rattle.network.specs.Missing.{missing_in}
 use Rattle.network.specs.Missing.Laws.{missing-means}
 use Rattle.network.specs.BranchTable.{BranchNetwork, with_triplets, no_triplets}
 use Rattle.ybus.specs.declared.Fault.{Fault}
-use Rattle.ybus.specs.declared.Fault.TheVariants as Fault
 use Rattle.ybus.specs.Fault.{fault_of}
 use Rattle.ybus.specs.Fault.Laws.{Above, Meet, FirstFault, tap-told, ends-told}
 use Rattle.outcome.specs.declared.Checked.{Checked}
-use Rattle.outcome.specs.declared.Checked.TheVariants as Checked
 use Rattle.outcome.specs.declared.Outcome.TheVariants.{Solved, Counts, Room, Slack, Generator, Branch, Triplet, Tap, Ends, NotConverged}
 use Rattle.outcome.specs.Outcome.{Lengths, row_refusal}
 use Rattle.branch_checks.specs.BranchChecks.{counted_branches, roomy_branches, fault_refusal, checked_rows_of, checked_branches_of}

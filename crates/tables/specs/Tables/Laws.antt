@@ -10,14 +10,12 @@ use Rattle.network.specs.Checks.Laws.{sized-counted}
 use Rattle.network.specs.Missing.{missing_in}
 use Rattle.network.specs.Missing.Laws.{means-missing}
 use Rattle.network.specs.declared.MissingBus.{MissingBus}
-use Rattle.network.specs.declared.MissingBus.TheVariants as MissingBus
 use Rattle.qlim.specs.declared.Settled.{Settled}
 use Rattle.starts.specs.declared.AcStart.{AcStart}
 use Rattle.pf_ac.specs.declared.AcPf.{AcPf}
 use Rattle.pf_ac.specs.Search.{searched}
 use Rattle.pf_ac.specs.WithStart.{ac_pf_of}
 use Rattle.outcome.specs.declared.Checked.{Checked}
-use Rattle.outcome.specs.declared.Checked.TheVariants as Checked
 use Rattle.outcome.specs.declared.Outcome.{Outcome}
 use Rattle.outcome.specs.declared.Outcome.TheVariants.{Counts, Room}
 use Rattle.outcome.specs.Outcome.{paper_of, Outs, Lengths, lengths_in, roomy, row_refusal, bus_refusal, written, write_of, zeros}

@@ -14,7 +14,6 @@ use Rattle.tables.specs.Tables.{Answer, answer, checked_of, ran_of, run_of, afte
 use Rattle.outcome.specs.Outcome.Laws.{one-per-bus}
 use Rattle.tables.specs.Tables.Laws.{met, solve-refused}
 use Rattle.outcome.specs.declared.Checked.{Checked}
-use Rattle.outcome.specs.declared.Checked.TheVariants as Checked
 use Rattle.outcome.specs.declared.Outcome.{Outcome}
 
 -- where the checks are met, zeros are left in the workspace

@@ -17,7 +17,6 @@ use Rattle.outcome.specs.Outcome.{ok, Outs, lengths_in, with_answer}
 use Rattle.tables.specs.Tables.{checked_of, Ran, ran, ran_of, run_of, answer, after_run, after_check, solve_of}
 use Rattle.tables.specs.Tables.Laws.{met}
 use Rattle.outcome.specs.declared.Checked.{Checked}
-use Rattle.outcome.specs.declared.Checked.TheVariants as Checked
 
 module _ (start : AcStart) (t u : Network) (a : Alike start t u) (o : Outs) (w : List Float) where
   -- the checks read lengths, and whole columns that agree
