@@ -123,10 +123,10 @@ pub fn admittances(
     shift: &[f64],
     sw: &[f64],
 ) -> [Admittance; 64]
-    ghost v: { Values }
-    requires sw_value { values_of g.now b.now g_fr.now b_fr.now g_to.now b_to.now tap.now shift.now sw.now ≡ v }
-    requires g_len_bound { (length v.g ≤ 64) × SizedValues (length v.g) v }
-    ensures { result ≡ admittances_of (length v.g) v }
+    requires { let v : Values = values_of g.now b.now g_fr.now b_fr.now g_to.now b_to.now tap.now shift.now sw.now in
+        (length v.g ≤ 64) × SizedValues (length v.g) v }
+    ensures { let v : Values = values_of g.now b.now g_fr.now b_fr.now g_to.now b_to.now tap.now shift.now sw.now in
+        result ≡ admittances_of (length v.g) v }
 {
     let zero = Complex::ZERO;
     let mut all = [Admittance {
@@ -246,11 +246,12 @@ pub fn build_ybus(
     shift: &[f64],
     sw: &[f64],
 ) -> Entries
-    ghost t: { BranchTable }
-    requires sw_value { branch_table_of (branches_of from.now to.now)
-        (values_of g.now b.now g_fr.now b_fr.now g_to.now b_to.now tap.now shift.now sw.now) ≡ t }
-    requires fit { Fit n t }
-    ensures { result ≡ entries_of n t }
+    requires { let t : BranchTable = branch_table_of (branches_of from.now to.now)
+        (values_of g.now b.now g_fr.now b_fr.now g_to.now b_to.now tap.now shift.now sw.now) in
+        Fit n t }
+    ensures { let t : BranchTable = branch_table_of (branches_of from.now to.now)
+        (values_of g.now b.now g_fr.now b_fr.now g_to.now b_to.now tap.now shift.now sw.now) in
+        result ≡ entries_of n t }
 {
     let m = from.len();
     let y = admittances(g, b, g_fr, b_fr, g_to, b_to, tap, shift, sw);

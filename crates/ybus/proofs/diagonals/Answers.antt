@@ -23,9 +23,26 @@ returns c =
 pub loop-e-init : goal.loop-e-init
 loop-e-init c = (omega arith, refl, rw c.new-d.ensures (sums-begin _ c.args.y))
 
--- the ends have places
-pub bounds-d-i : goal.bounds-d-i
-bounds-d-i c = c.requires.1 c.loop-e.e (omega arith)
+pub offset_bounds-d-i : goal.offset_bounds-d-i
+offset_bounds-d-i c = omega (arith, (c.requires.1 c.loop-e.e (omega arith)))
 
-pub bounds-d-k : goal.bounds-d-k
-bounds-d-k c = c.requires.2 c.loop-e.e (omega arith)
+pub bounds-d-i : goal.bounds-d-i
+bounds-d-i c = omega (arith, (c.requires.1 c.loop-e.e (omega arith)))
+
+pub sum-a-requires : goal.sum-a-requires
+sum-a-requires c = omega (arith, (c.requires.1 c.loop-e.e (omega arith)))
+
+pub offset_bounds-d-i-in-loop-e : goal.offset_bounds-d-i-in-loop-e
+offset_bounds-d-i-in-loop-e c = omega (arith, (c.requires.1 c.loop-e.e (omega arith)))
+
+pub bounds-d-i-in-loop-e : goal.bounds-d-i-in-loop-e
+bounds-d-i-in-loop-e c = omega (arith, (c.requires.2 c.loop-e.e (omega arith)))
+
+pub offset_bounds-d-k : goal.offset_bounds-d-k
+offset_bounds-d-k c = omega (arith, (c.requires.2 c.loop-e.e (omega arith)))
+
+pub sum-b-requires : goal.sum-b-requires
+sum-b-requires c = omega (arith, (c.requires.2 c.loop-e.e (omega arith)))
+
+pub offset_bounds-d-k-in-loop-e : goal.offset_bounds-d-k-in-loop-e
+offset_bounds-d-k-in-loop-e c = omega (arith, (c.requires.2 c.loop-e.e (omega arith)))

@@ -1,5 +1,5 @@
 -- `ybus::diagonals` meets its contract: the sums are those of the branches passed. Assumes nothing.
-use Prim.Native.Nat.{◌≤◌}
+use Prim.Native.Nat.{◌-◌, ◌≤◌}
 use mathlib.Core.Path.{◌≡◌}
 use lib.ListN.{length}
 use Rattle.network.specs.Network.{branches_of}
@@ -8,3 +8,6 @@ use Rattle.ybus.proofs.diagonals.Given as goal
 
 abbrev pub invariant-loop-e : goal.invariant-loop-e
 invariant-loop-e l = (l.e ≤ l.e-end) × (l.e-end ≡ length l.from) × (l.d ≡ sums_to l.e (branches_of l.from l.to) l.y)
+
+abbrev pub decreases-loop-e : goal.decreases-loop-e
+decreases-loop-e l = l.e-end - l.e

@@ -1,4 +1,5 @@
 -- `ybus::row_fault` meets its contract, by its test. Assumes nothing.
+
 use Rattle.ybus.proofs.row_fault.Goals as goal
 
 pub returns-then-tap : goal.returns-then-tap
