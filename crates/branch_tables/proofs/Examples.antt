@@ -46,7 +46,6 @@ use Rattle.tables.specs.Tables.{answer, run_of}
 use Rattle.outcome.specs.declared.Checked.TheVariants as Checked
 use Rattle.outcome.specs.declared.Outcome.TheVariants.{Room}
 use Rattle.ybus.specs.declared.Fault.{Fault}
-use Rattle.ybus.specs.declared.Fault.TheVariants as Fault
 use Rattle.branch_checks.specs.BranchChecks.{fault_refusal, checked_branches_of}
 use Rattle.branch_tables.specs.BranchTables.{BranchAnswer, branch_answer, after_branch_check, solve_branches_of}
 

@@ -262,7 +262,7 @@ pub fn solve(
         (slacks_of slacks.now va_slacks.now)
         (generators_of gen_bus.now qmin.now qmax.now)
         (branch_table_of (branches_of from.now to.now)
-        (values_of g.entry.now b.now g_fr.now b_fr.now g_to.now b_to.now tap.now shift.now sw.now)) in
+        (values_of g.now b.now g_fr.now b_fr.now g_to.now b_to.now tap.now shift.now sw.now)) in
         let o = outs vm.old va.old p.old q.old kinds.old in
         let e = outs vm.new va.new p.new q.new kinds.new in
         let f = flows_of pf.old qf.old pt.old qt.old loss.old in

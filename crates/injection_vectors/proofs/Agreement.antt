@@ -43,6 +43,9 @@ module _ {A : Type 0} {f : ℕ → A} {l : List A} where
   pub writing-all : {end k : ℕ} {a : List A} (d : A) → WritingOver f l end k a → end ≤ k → a ≡ each (length l) f
   writing-all d w h = stored-all w.stored (omega (arith, w.whole)) ∙ written_over f d l
 
+pub column-parts : (c : Column) (x y : List Float) → c.re ≡ x → c.im ≡ y → c ≡ record { re = x; im = y }
+column-parts c x y p q = rw (← p, ← q)
+
 pub injections-parts : (x : Injections) (v i : Column) (p q : List Float) → x.phasors.v ≡ v → x.phasors.i ≡ i → x.power.p ≡ p → x.power.q ≡ q
     → x ≡ record { phasors = record { v = v; i = i }; power = record { p = p; q = q } }
 injections-parts x v i p q a b c d = rw (← a, ← b, ← c, ← d)

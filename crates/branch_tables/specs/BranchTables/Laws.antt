@@ -20,7 +20,6 @@ use Rattle.flows.specs.Flows.{with_flows_by, with_flows, flows_room}
 use Rattle.flows.specs.Flows.Laws.{flows-of-table}
 use Rattle.starts.specs.declared.AcStart.{AcStart}
 use Rattle.outcome.specs.declared.Checked.{Checked}
-use Rattle.outcome.specs.declared.Checked.TheVariants as Checked
 use Rattle.outcome.specs.declared.Outcome.{Outcome}
 use Rattle.outcome.specs.Outcome.{paper_of, Outs, Lengths, lengths_in}
 use Rattle.outcome.specs.Outcome.Laws.{one-per-bus}

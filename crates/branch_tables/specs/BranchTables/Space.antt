@@ -6,7 +6,6 @@ use Rattle.flows.specs.declared.Flows.{Flows}
 use Rattle.flows.specs.Flows.{flows_room}
 use Rattle.starts.specs.declared.AcStart.{AcStart}
 use Rattle.outcome.specs.declared.Checked.{Checked}
-use Rattle.outcome.specs.declared.Checked.TheVariants as Checked
 use Rattle.outcome.specs.declared.Outcome.{Outcome}
 use Rattle.outcome.specs.Outcome.{Outs, lengths_in, paper_of}
 use Rattle.tables.specs.Tables.{answer, after_run}

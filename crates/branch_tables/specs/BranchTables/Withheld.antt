@@ -14,7 +14,6 @@ use Rattle.flows.specs.Flows.{flows_room}
 use Rattle.starts.specs.declared.AcStart.{AcStart}
 use Rattle.pf_ac.specs.WithStart.Withheld.{kind_for, AlikeBuses, AlikeGenerators, Alike}
 use Rattle.outcome.specs.declared.Checked.{Checked}
-use Rattle.outcome.specs.declared.Checked.TheVariants as Checked
 use Rattle.outcome.specs.declared.Outcome.TheVariants.{Counts, Room}
 use Rattle.outcome.specs.Outcome.{Outs, lengths_in, roomy, bus_refusal}
 use Rattle.tables.specs.Tables.Withheld.{counted_same, missing-same, ready-same}
