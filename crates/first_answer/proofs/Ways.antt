@@ -10,7 +10,6 @@ use Rattle.trailer.specs.Trailer.{trailer_start}
 use Rattle.trailer.specs.declared.Edition.TheVariants.{First}
 use Rattle.case_text.specs.declared.Contents.{Contents}
 use Rattle.case_text.specs.declared.Reading.{Reading}
-use Rattle.case_text.specs.declared.Reading.TheVariants as Reading
 use Rattle.case_text.specs.Answer as Reader
 use Rattle.case_text.specs.Answer.Laws.{filled-room}
 use Rattle.case_text.proofs.Refusals.{Refused, refused-paper}
