@@ -24,7 +24,6 @@ use Rattle.trailer.specs.declared.Edition.{Edition}
 use Rattle.trailer.specs.declared.Edition.TheVariants.{First, Second}
 use Rattle.case_text.specs.declared.Contents.{Contents}
 use Rattle.case_text.specs.declared.Reading.{Reading}
-use Rattle.case_text.specs.declared.Reading.TheVariants as Reading
 use Rattle.case_text.specs.Text.{text_by, checked_text, text_of}
 use Rattle.case_text.specs.Text.Laws.{Accepted, Where, accepted-has, text-sound, never-room}
 use Rattle.case_text.specs.Named.{LowestLine}
