@@ -71,8 +71,8 @@ fn kind_at(s: &[u8], a: usize, e: usize, j: usize) -> u8
 }
 
 fn fill_reals(s: &[u8], a: usize, e: usize, j: usize, out: &mut [f64])
-    requires a_le_e { (a ≤ e) × (e ≤ length s.now) }
-    requires j_bound { (j < 16) × (row_count (slice a e s.now) ≤ length out.old) }
+    requires within { (a ≤ e) × (e ≤ length s.now) }
+    requires room { (j < 16) × (row_count (slice a e s.now) ≤ length out.old) }
     ensures { out.new ≡ filled (real_field j) (slice a e s.now) out.old }
 {
     let mut i = a;
@@ -89,8 +89,8 @@ fn fill_reals(s: &[u8], a: usize, e: usize, j: usize, out: &mut [f64])
 }
 
 fn fill_numbers(s: &[u8], a: usize, e: usize, j: usize, out: &mut [usize])
-    requires a_le_e { (a ≤ e) × (e ≤ length s.now) }
-    requires j_bound { (j < 16) × (row_count (slice a e s.now) ≤ length out.old) }
+    requires within { (a ≤ e) × (e ≤ length s.now) }
+    requires room { (j < 16) × (row_count (slice a e s.now) ≤ length out.old) }
     ensures { out.new ≡ filled (number_field j) (slice a e s.now) out.old }
 {
     let mut i = a;
@@ -107,8 +107,8 @@ fn fill_numbers(s: &[u8], a: usize, e: usize, j: usize, out: &mut [usize])
 }
 
 fn fill_kinds(s: &[u8], a: usize, e: usize, j: usize, out: &mut [u8])
-    requires a_le_e { (a ≤ e) × (e ≤ length s.now) }
-    requires j_bound { (j < 16) × (row_count (slice a e s.now) ≤ length out.old) }
+    requires within { (a ≤ e) × (e ≤ length s.now) }
+    requires room { (j < 16) × (row_count (slice a e s.now) ≤ length out.old) }
     ensures { out.new ≡ filled (kind_field j) (slice a e s.now) out.old }
 {
     let mut i = a;
@@ -134,8 +134,8 @@ fn fill_buses_front(
     pd: &mut [f64],
     qd: &mut [f64],
 )
-    requires a_le_e { (a ≤ e) × (e ≤ length s.now) }
-    requires fact { let r = row_count (slice a e s.now) in (r ≤ length kind.old) × (r ≤ length vm_set.old) × (r ≤ length pd.old) × (r ≤ length qd.old) }
+    requires within { (a ≤ e) × (e ≤ length s.now) }
+    requires room { let r = row_count (slice a e s.now) in (r ≤ length kind.old) × (r ≤ length vm_set.old) × (r ≤ length pd.old) × (r ≤ length qd.old) }
     ensures { (kind.new ≡ filled (kind_field 0) (slice a e s.now) kind.old)
         × (vm_set.new ≡ filled (real_field 1) (slice a e s.now) vm_set.old)
         × (pd.new ≡ filled (real_field 2) (slice a e s.now) pd.old)
@@ -158,8 +158,8 @@ fn fill_four(
     z: &mut [f64],
     w: &mut [f64],
 )
-    requires a_le_e { (a ≤ e) × (e ≤ length s.now) × (j + 3 < 16) }
-    requires fact { let r = row_count (slice a e s.now) in (r ≤ length x.old) × (r ≤ length y.old) × (r ≤ length z.old) × (r ≤ length w.old) }
+    requires within { (a ≤ e) × (e ≤ length s.now) × (j + 3 < 16) }
+    requires room { let r = row_count (slice a e s.now) in (r ≤ length x.old) × (r ≤ length y.old) × (r ≤ length z.old) × (r ≤ length w.old) }
     ensures { (x.new ≡ filled (real_field j) (slice a e s.now) x.old)
         × (y.new ≡ filled (real_field (j + 1)) (slice a e s.now) y.old)
         × (z.new ≡ filled (real_field (j + 2)) (slice a e s.now) z.old)
@@ -197,8 +197,8 @@ pub fn fill_buses(
 
 // `R bus angle`.
 fn fill_slacks(s: &[u8], a: usize, e: usize, slacks: &mut [usize], va_slacks: &mut [f64])
-    requires a_le_e { (a ≤ e) × (e ≤ length s.now) }
-    requires s_in_bounds { (row_count (slice a e s.now) ≤ length slacks.old) × (row_count (slice a e s.now) ≤ length va_slacks.old) }
+    requires within { (a ≤ e) × (e ≤ length s.now) }
+    requires room { (row_count (slice a e s.now) ≤ length slacks.old) × (row_count (slice a e s.now) ≤ length va_slacks.old) }
     ensures { (slacks.new ≡ filled (number_field 0) (slice a e s.now) slacks.old)
         × (va_slacks.new ≡ filled (real_field 1) (slice a e s.now) va_slacks.old) }
 {
@@ -215,8 +215,8 @@ fn fill_generators(
     qmin: &mut [f64],
     qmax: &mut [f64],
 )
-    requires a_le_e { (a ≤ e) × (e ≤ length s.now) }
-    requires fact { let r = row_count (slice a e s.now) in (r ≤ length gen_bus.old) × (r ≤ length qmin.old) × (r ≤ length qmax.old) }
+    requires within { (a ≤ e) × (e ≤ length s.now) }
+    requires room { let r = row_count (slice a e s.now) in (r ≤ length gen_bus.old) × (r ≤ length qmin.old) × (r ≤ length qmax.old) }
     ensures { (gen_bus.new ≡ filled (number_field 0) (slice a e s.now) gen_bus.old)
         × (qmin.new ≡ filled (real_field 1) (slice a e s.now) qmin.old)
         × (qmax.new ≡ filled (real_field 2) (slice a e s.now) qmax.old) }
@@ -228,8 +228,8 @@ fn fill_generators(
 
 // `L from to`.
 fn fill_branches(s: &[u8], a: usize, e: usize, br_from: &mut [usize], br_to: &mut [usize])
-    requires a_le_e { (a ≤ e) × (e ≤ length s.now) }
-    requires s_in_bounds { (row_count (slice a e s.now) ≤ length br_from.old) × (row_count (slice a e s.now) ≤ length br_to.old) }
+    requires within { (a ≤ e) × (e ≤ length s.now) }
+    requires room { (row_count (slice a e s.now) ≤ length br_from.old) × (row_count (slice a e s.now) ≤ length br_to.old) }
     ensures { (br_from.new ≡ filled (number_field 0) (slice a e s.now) br_from.old)
         × (br_to.new ≡ filled (number_field 1) (slice a e s.now) br_to.old) }
 {
@@ -247,8 +247,8 @@ fn fill_triplets(
     y_re: &mut [f64],
     y_im: &mut [f64],
 )
-    requires a_le_e { (a ≤ e) × (e ≤ length s.now) }
-    requires fact { let r = row_count (slice a e s.now) in (r ≤ length y_row.old) × (r ≤ length y_col.old) × (r ≤ length y_re.old) × (r ≤ length y_im.old) }
+    requires within { (a ≤ e) × (e ≤ length s.now) }
+    requires room { let r = row_count (slice a e s.now) in (r ≤ length y_row.old) × (r ≤ length y_col.old) × (r ≤ length y_re.old) × (r ≤ length y_im.old) }
     ensures { (y_row.new ≡ filled (number_field 0) (slice a e s.now) y_row.old)
         × (y_col.new ≡ filled (number_field 1) (slice a e s.now) y_col.old)
         × (y_re.new ≡ filled (real_field 2) (slice a e s.now) y_re.old)

@@ -55,8 +55,8 @@ pub fn is_byte(s: &[u8], a: usize, e: usize, x: u8) -> bool
 
 // The digits as a whole number, after those that gave `from`. It stays below 10^15: from 10^14 on a digit more would be the sixteenth that counts.
 pub fn whole(s: &[u8], a: usize, e: usize, from: usize) -> Digits
-    requires a_le_e { (a ≤ e) × (e ≤ length s.now) }
-    requires from_bound { from < 10 ^ 15 }
+    requires within { (a ≤ e) × (e ≤ length s.now) }
+    requires small { from < 10 ^ 15 }
     ensures { result ≡ limited_of from (slice a e s.now) }
 {
     let mut m = from;
@@ -121,8 +121,8 @@ fn scaled(m: usize, k: usize) -> f64
 
 // The digits from a up to b, and as decimals those from c up to e.
 fn amount(s: &[u8], a: usize, b: usize, c: usize, e: usize) -> Real
-    requires a_le_b { (a ≤ b) × (b ≤ length s.now) }
-    requires c_le_e { (c ≤ e) × (e ≤ length s.now) }
+    requires whole_within { (a ≤ b) × (b ≤ length s.now) }
+    requires decimals_within { (c ≤ e) × (e ≤ length s.now) }
     ensures { result ≡ amount_of (slice a b s.now) (slice c e s.now) }
 {
     if a == b {

@@ -96,7 +96,7 @@ fn branch_at(
     shift: &[f64],
     sw: &[f64],
 ) -> Branch
-    requires e_in_bounds { let v : Values = values_of g.now b.now g_fr.now b_fr.now g_to.now b_to.now tap.now shift.now sw.now in (e < length v.g) × SizedValues (length v.g) v }
+    requires within { let v : Values = values_of g.now b.now g_fr.now b_fr.now g_to.now b_to.now tap.now shift.now sw.now in (e < length v.g) × SizedValues (length v.g) v }
     ensures { let v : Values = values_of g.now b.now g_fr.now b_fr.now g_to.now b_to.now tap.now shift.now sw.now in result ≡ branch_at v e }
 {
     Branch {

@@ -19,14 +19,14 @@ returns-then-a-b c =
 pub returns-then-k-gt22 : goal.returns-then-k-gt22
 returns-then-k-gt22 c =
     let a = c.args in
-    sym (many-decimals (slice a.a a.b a.s.now) (slice a.c a.e a.s.now) (rw (length-slice a.c a.e a.s.now c.requires.c_le_e.1) c.if-k-gt22.true))
+    sym (many-decimals (slice a.a a.b a.s.now) (slice a.c a.e a.s.now) (rw (length-slice a.c a.e a.s.now c.requires.decimals_within.1) c.if-k-gt22.true))
 
 pub returns-in_default : goal.returns-in_default
 returns-in_default c = sym (whole-wrong _ _ (sym c.whole.ensures ∙ c.in_default.is))
 
 -- the digits before the point are a number
-pub whole-requires-2-clause-from_bound : goal.whole-requires-2-clause-from_bound
-whole-requires-2-clause-from_bound c =
+pub whole-requires-2-clause-small : goal.whole-requires-2-clause-small
+whole-requires-2-clause-small c =
     let a = c.args in
     first_below_lem (slice a.a a.b a.s.now) (slice a.c a.e a.s.now) _ (sym c.whole.ensures ∙ c.in-Number.is)
 
@@ -41,7 +41,7 @@ scaled-requires c =
 pub returns : goal.returns
 returns c =
     let a = c.args in
-    let some = slice-some a.s.now a.a a.b (omega (arith, c.requires.a_le_b.0, c.if-a-b.false)) c.requires.a_le_b.1 in
-    let count : length (slice a.c a.e a.s.now) ≡ a.e - a.c = length-slice a.c a.e a.s.now c.requires.c_le_e.1 in
+    let some = slice-some a.s.now a.a a.b (omega (arith, c.requires.whole_within.0, c.if-a-b.false)) c.requires.whole_within.1 in
+    let count : length (slice a.c a.e a.s.now) ≡ a.e - a.c = length-slice a.c a.e a.s.now c.requires.decimals_within.1 in
     ap Real.Value (c.scaled.ensures ∙ rw count)
     ∙ sym (value _ _ _ (sym c.whole.ensures ∙ c.in-Number.is) _ (sym c.whole-2.ensures ∙ c.in-Number-whole.is) some (rw count c.if-k-gt22.false))

@@ -40,9 +40,3 @@ returns c =
 pub search-t-requires : goal.search-t-requires
 search-t-requires c =
     (c.requires.0, omega (arith, c.requires.1, c.loop-it.invariant.1, c.direction-found.auto.w))
-
--- HAND -- ??? tie.Need-same-length-3 invariant-loop decreases-loop
--- HAND same-length-3 : tie.Need-same-length-3 invariant-loop decreases-loop
--- HAND same-length-3 c =
--- HAND     let d = c.before.before.before.before.before.before.before.before.before in
--- HAND     d.direction.auto.1.1.1.1.1.1.1.0 ∙ d.before.before.before.before.before.before.loop.invariant.1

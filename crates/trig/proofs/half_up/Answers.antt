@@ -4,10 +4,10 @@ use Rattle.trig.proofs.Near.{in-word, next_fits, up-as-is, up_next}
 use Rattle.trig.proofs.half_up.Goals as goal
 
 pub truncating_f64_to_u64-n-requires-clause-lower_bound : goal.truncating_f64_to_u64-n-requires-clause-lower_bound
-truncating_f64_to_u64-n-requires-clause-lower_bound c = (in-word _ (c.requires.fact_1, c.requires.fact_2)).0
+truncating_f64_to_u64-n-requires-clause-lower_bound c = (in-word _ (c.requires.low, c.requires.high)).0
 
 pub truncating_f64_to_u64-n-requires-clause-upper_bound : goal.truncating_f64_to_u64-n-requires-clause-upper_bound
-truncating_f64_to_u64-n-requires-clause-upper_bound c = (in-word _ (c.requires.fact_1, c.requires.fact_2)).1
+truncating_f64_to_u64-n-requires-clause-upper_bound c = (in-word _ (c.requires.low, c.requires.high)).1
 
 pub overflow_add-result : goal.overflow_add-result
 overflow_add-result c = next_fits _ (search rules) c.truncating_f64_to_u64-n.ensures

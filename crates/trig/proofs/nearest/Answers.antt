@@ -5,20 +5,20 @@ use Rattle.trig.specs.Sine.{whole_of, quarter_of}
 use Rattle.trig.proofs.Signs.{positive-above, positive-below, whole_above, whole_below, whole-at-zero, as-signed, minus, minus-in, quarter-minus}
 use Rattle.trig.proofs.nearest.Goals as goal
 
-pub half_up-n-requires-clause-fact_1 : goal.half_up-n-requires-clause-fact_1
-half_up-n-requires-clause-fact_1 c = positive-above c.args.t c.if-t.true c.requires.fact_2
+pub half_up-n-requires-clause-low : goal.half_up-n-requires-clause-low
+half_up-n-requires-clause-low c = positive-above c.args.t c.if-t.true c.requires.high
 
-pub half_down-n-requires-clause-fact_1 : goal.half_down-n-requires-clause-fact_1
-half_down-n-requires-clause-fact_1 c = (positive-below c.args.t c.if-t-2.true c.requires.fact_1).0
+pub half_down-n-requires-clause-low : goal.half_down-n-requires-clause-low
+half_down-n-requires-clause-low c = (positive-below c.args.t c.if-t-2.true c.requires.low).0
 
-pub half_down-n-requires-clause-fact_2 : goal.half_down-n-requires-clause-fact_2
-half_down-n-requires-clause-fact_2 c = (positive-below c.args.t c.if-t-2.true c.requires.fact_1).1
+pub half_down-n-requires-clause-high : goal.half_down-n-requires-clause-high
+half_down-n-requires-clause-high c = (positive-below c.args.t c.if-t-2.true c.requires.low).1
 
 pub returns-then-t : goal.returns-then-t
 unfolding quarter_of
 returns-then-t c =
     let n = c.half_up-n.result in
-    let k : pos n ≡ whole_of c.args.t = ap pos c.half_up-n.ensures.0 ∙ whole_above c.args.t (positive-above c.args.t c.if-t.true c.requires.fact_2) in
+    let k : pos n ≡ whole_of c.args.t = ap pos c.half_up-n.ensures.0 ∙ whole_above c.args.t (positive-above c.args.t c.if-t.true c.requires.high) in
     (as-signed n c.half_up-n.ensures.1 ∙ k, ap quarter_of k)
 
 pub overflow_sub-result : goal.overflow_sub-result
@@ -29,11 +29,11 @@ returns-then-t-2 c =
     let n = c.half_down-n.result in
     let small = c.half_down-n.ensures.1 in
     let k : neg_ℤ (pos n) ≡ whole_of c.args.t =
-    ap (λ (q : ℕ). neg_ℤ (pos q)) c.half_down-n.ensures.0 ∙ whole_below c.args.t (positive-below c.args.t c.if-t-2.true c.requires.fact_1).0 in
+    ap (λ (q : ℕ). neg_ℤ (pos q)) c.half_down-n.ensures.0 ∙ whole_below c.args.t (positive-below c.args.t c.if-t-2.true c.requires.low).0 in
     (to_z-of_z w64 _ (minus-in n small) ∙ minus n small ∙ k, quarter-minus n ∙ ap quarter_of k)
 
 pub returns : goal.returns
 unfolding quarter_of
 returns c =
-    let k = whole-at-zero c.args.t c.if-t.false c.if-t-2.false c.requires.fact_1 c.requires.fact_2 in
+    let k = whole-at-zero c.args.t c.if-t.false c.if-t-2.false c.requires.low c.requires.high in
     (k, ap quarter_of k)

@@ -12,7 +12,7 @@ pub nearest-t-requires : goal.nearest-t-requires
 unfolding neg of_bits
 nearest-t-requires c =
     let r = in-range c.args.x (subst T (sym c.if-x.true) tt) (subst T (sym c.if-x-2.true) tt) in
-    record { fact_1 = r.0; fact_2 = r.1 }
+    record { low = r.0; high = r.1 }
 
 pub returns-then-x-2 : goal.returns-then-x-2
 unfolding neg of_bits
