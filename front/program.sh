@@ -3,7 +3,7 @@
 
 # One sum over all that the program is made from.
 sources_sum() {
-    (cd "$here" && find crates crates.txt -type f \( -name '*.rt' -o -name crates.txt \) -exec sha256sum {} + | sort -k 2 | sha256sum | cut -d ' ' -f 1)
+    (cd "$here" && find crates crates.txt -name out -prune -o -type f \( -name '*.rt' -o -name crates.txt \) -exec sha256sum {} + | sort -k 2 | sha256sum | cut -d ' ' -f 1)
 }
 
 sum_of() { # FILE
@@ -32,10 +32,11 @@ build() { # FOLDER
     mkdir -p "$here/target" 2>/dev/null && [ -w "$here/target" ] || give_up "the program must be built, and $here can't be written"
     before=$(sources_sum)
     say "the program is proved and compiled; this is done once and takes about 10 minutes"
-    proving "$here/target/solve.log" solve rt check solve || give_up "the program could not be built; target/solve.log says why"
+    # The run has no input: what it prints of the empty text goes to the log.
+    proving "$here/target/solve.log" solve sh -c 'cd crates/solve && exec rt run </dev/null' || give_up "the program could not be built; target/solve.log says why"
     [ "$(sources_sum)" = "$before" ] || give_up "the sources were changed while they were proved; call it again"
     mkdir -p "$1" &&
-        cp "$here/target/bin/solve" "$1/solve.new" &&
+        cp "$here/crates/solve/out/solve" "$1/solve.new" &&
         printf '%s\n' "sources $before" "program $(sum_of "$1/solve.new")" "processor $(uname -m)" >"$1/made.new" &&
         mv "$1/solve.new" "$1/solve" &&
         mv "$1/made.new" "$1/made" || give_up "the program could not be put into $1"

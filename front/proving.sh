@@ -7,9 +7,9 @@ started_by=tinklehames-proof # the name that a proof's process has
 proving() { # LOG TOP COMMAND..
     log=$1 top=$2
     shift 2
-    crates=$(needed "$top") edits=$(find "$here"/crates/*/must-fail -name '*.edit' 2>/dev/null | wc -l)
+    crates=$(needed "$top")
     wait_for_other
-    rm -rf "$here/target/log" "$here/target/must-fail" "$work/ended"
+    rm -f "$log" "$work/ended"
     began=$(date +%s) what=''
     trap 'stop_proof; exit 130' INT
     trap 'stop_proof; exit 143' TERM HUP
@@ -74,19 +74,16 @@ needed() { # CRATE
         }' "$here/crates.txt"
 }
 
-# The names below target/FOLDER whose state, which rt keeps in NAME.res, is one of STATES.
-in_state() { # FOLDER STATES
-    (cd "$here/target/$1" 2>/dev/null && find . -name '*.res' -exec grep -lxE "$2" {} + 2>/dev/null | sed 's,^\./,,; s,\.res$,,' | sort)
+# The crates that the log says are proved, each once.
+proved_so_far() {
+    sed -n -E 's/^rt: ([a-z0-9_]+) proved$/\1/p; s/^crate ([a-z0-9_]+): modules .*/\1/p' "$log" 2>/dev/null | awk '!seen[$0]++'
 }
 
 # How many are done of how many, what is worked on, and the time so far: one line, updated in place, on a terminal; elsewhere a line for each that is done.
 progress() {
     was=${what-}
-    if [ -n "$(in_state must-fail 'refused|survived')" ]; then
-        finished=$(in_state must-fail refused) now=$(in_state must-fail survived) what='wrong edits refused' of=$edits
-    else
-        finished=$(in_state log 'proved|built') now=$(in_state log failed) what='crates proved' of=$crates
-    fi
+    finished=$(proved_so_far) now=$(sed -n -E 's/^== ([a-z0-9_]+)$/\1/p; s/^rt: chose .* for ([a-z0-9_]+)$/\1/p' "$log" 2>/dev/null | tail -n 1)
+    what='crates proved' of=$crates
     [ "$what" = "$was" ] || told='' number=0
     seconds=$(($(date +%s) - began))
     for one in $finished; do

@@ -134,8 +134,7 @@ fn put_answer(
 }
 
 // The report of a text. The buffer's first places, as many as are answered, hold it.
-#[unsafe(no_mangle)]
-pub extern "C" fn report(text: &[u8], out: &mut [u8; BUFFER], space: &mut [f64; 6144]) -> usize
+pub fn report(text: &[u8], out: &mut [u8; BUFFER], space: &mut [f64; 6144]) -> usize
     ensures reported { Reported (report_of text.now space.old) out.old result out.new space.new }
     ensures prefix_len { IsPrefixLen result out.new }
 {
