@@ -7,7 +7,7 @@ use Rattle.real.specs.Nearest.{NearestDouble}
 use Rattle.fields.specs.Cut.{only, pieces}
 use Rattle.fields.specs.Real.{DigitRule, allowed, or_nan_by, or_nan_of, is_real, real_in}
 use Rattle.fields.specs.Decimal.{has_minus, numerator, denominator}
-use Rattle.fields.specs.Decimal.Laws.{real-nearest}
+use Rattle.fields.proofs.Nearest.{real-nearest}
 use Rattle.fields.specs.declared.Real.{Real}
 use Rattle.rows.specs.Asked.{field_count, want_of, good_by}
 use Rattle.rows.specs.Line.{tail}

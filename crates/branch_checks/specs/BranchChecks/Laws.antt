@@ -14,7 +14,7 @@ use Rattle.network.specs.Missing.Laws.{missing-means}
 use Rattle.network.specs.BranchTable.{BranchNetwork, with_triplets, no_triplets}
 use Rattle.ybus.specs.declared.Fault.{Fault}
 use Rattle.ybus.specs.Fault.{fault_of}
-use Rattle.ybus.specs.Fault.Laws.{Above, Meet, FirstFault, tap-told, ends-told}
+use Rattle.ybus.specs.Fault.Laws.{Above, Meet, FirstFault}
 use Rattle.outcome.specs.declared.Checked.{Checked}
 use Rattle.outcome.specs.declared.Outcome.TheVariants.{Solved, Counts, Room, Slack, Generator, Branch, Triplet, Tap, Ends, NotConverged}
 use Rattle.outcome.specs.Outcome.{Lengths, row_refusal}
@@ -133,7 +133,7 @@ row-no-fault Naming.Triplet i j = refl
 
 module _ (t : BranchNetwork) (m : Lengths) (places space : ℕ) where
   -- so a fault that is told is the branches', and the checks before it refuse nothing
-  fault-told : (f : Fault) → checked_branches_of t m places space ≡ fault_refusal f → (f ≡ Fault.Nothing → ⊥) → Passed t m places space × (fault t m places space ≡ f)
+  pub fault-told : (f : Fault) → checked_branches_of t m places space ≡ fault_refusal f → (f ≡ Fault.Nothing → ⊥) → Passed t m places space × (fault t m places space ≡ f)
   unfolding checked_branches_of
   fault-told f e some = go (counted_branches t) (roomy_branches t m places space) (missing_in (bare t m places space)) refl refl refl
     where
@@ -149,15 +149,3 @@ module _ (t : BranchNetwork) (m : Lengths) (places space : ℕ) where
       go true true (MissingBus.At table i j) p q r = absurd (some (told (Checked.Refused (row_refusal table i j)) (rw (p, q, r) at e) (row-no-fault table i j)))
       go true false c p q r = absurd (some (told (Checked.Refused Room) (rw (p, q) at e) refl))
       go false b c p q r = absurd (some (told (Checked.Refused Counts) (rw p at e) refl))
-
-  pub tap-refused : (row : ℕ) → checked_branches_of t m places space ≡ Checked.Refused (Tap row) → TapRefused t m places space row
-  tap-refused row e =
-      let h = fault-told (Fault.Tap row) e (λ k. no-case (cc)) in
-      let l = tap-told t.table.ends t.table.values.tap row h.1 in
-      record { passed = h.0; lowest = l.0; not_above = l.1 }
-
-  pub ends-refused : (row : ℕ) → checked_branches_of t m places space ≡ Checked.Refused (Ends row) → EndsRefused t m places space row
-  ends-refused row e =
-      let h = fault-told (Fault.Ends row) e (λ k. no-case (cc)) in
-      let l = ends-told t.table.ends t.table.values.tap row h.1 in
-      record { passed = h.0; lowest = l.0; above = l.1; meet = l.2 }

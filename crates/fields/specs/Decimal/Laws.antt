@@ -1,7 +1,7 @@
 -- A real's value is the decimal that it writes, rounded once: the double nearest to it, ties to even. For the digits that may count are a whole number below
 -- 10^15 and the decimals' power of ten is at most 10^22, so both are doubles, and their quotient is rounded once. Assumes nothing.
-use Rattle.std.specs.Prelude.{◌≡◌, refl, Bool, true, false, cond, List, [], ◌∷◌, ℕ, ◌*◌, ◌^◌, ◌≤◌, ◌<◌, eqb, Float, length}
-use Rattle.std.proofs.Common.{sym, ap, ◌∙◌, ⊎_elim, mul-one, mul_assoc, mul_comm, mul_left_comm, mul-pos, lt_irrefl, zero-mul, arith, lit<, ne_eqb}
+use Rattle.std.specs.Prelude.{◌≡◌, refl, Bool, true, false, cond, List, [], ◌∷◌, ℕ, ◌*◌, ◌^◌, ◌<◌, eqb, Float, length}
+use Rattle.std.proofs.Common.{sym, ◌∙◌, ⊎_elim, mul-one, mul_assoc, mul_comm, mul_left_comm, mul-pos, lt_irrefl, zero-mul, arith, lit<, ne_eqb}
 use Rattle.std.proofs.Math.Nat.{one-le-pow}
 use Rattle.std.specs.Float.{nan, inf, fin, Format, binary64}
 use Rattle.std.specs.Float.Ieee.{up, down, neg, round, div, of_int}
@@ -11,8 +11,6 @@ use Rattle.std.specs.Float.Ieee.Back.{round_whole}
 use Rattle.std.specs.Float.Ieee.Scale.{round_same}
 use Rattle.real.specs.Tests.{decided, true-false, no-case}
 use Rattle.real.specs.Literals.{double}
-use Rattle.real.specs.Nearest.{NearestDouble}
-use Rattle.real.specs.Nearest.Laws.{round-nearest-small}
 use Rattle.real.proofs.Rounding.{neg-round}
 use Rattle.fields.specs.Cut.{upto, past, has, empty}
 use Rattle.fields.specs.Cut.Laws.{empty-is, has-not, past-none}
@@ -83,7 +81,7 @@ unsigned-written l x h = ⊎_elim (λ q. pointed-written (rw q at h)) plain (dec
     plain q = rw (has-not 46 l q, past-none 46 l q) (amount-written l [] x (rw q at h))
 
 -- its digits are a whole number below 10^15
-written_small : (w d : List ℕ) (x : Float) → Written w d x → number (number 0 w) d < 10 ^ 15
+pub written_small : (w d : List ℕ) (x : Float) → Written w d x → number (number 0 w) d < 10 ^ 15
 written_small w d x k = number_small w d k.whole k.rest k.few
 
 -- so it and the power of ten are doubles, and the value is the fraction, rounded once
@@ -92,7 +90,7 @@ written-exact : (w d : List ℕ) (x : Float) → Written w d x
 unfolding of_int
 written-exact w d x k = (round_whole binary64 false (number (number 0 w) d) (omega (arith, written_small w d x k)), power-exact (length d) (few-decimals w d k.few))
 
-written-rounded : (w d : List ℕ) (x : Float) → Written w d x → x ≡ round binary64 false (number (number 0 w) d) (10 ^ length d)
+pub written-rounded : (w d : List ℕ) (x : Float) → Written w d x → x ≡ round binary64 false (number (number 0 w) d) (10 ^ length d)
 written-rounded w d x k =
     let e = written-exact w d x k in
     k.value ∙ div-whole binary64 _ _ (number (number 0 w) d) (10 ^ length d) (one-le-pow (length d) 10 (lit< tt)) e.0 e.1
@@ -111,7 +109,7 @@ real-written (b ∷ r) x h = ⊎_elim signed (λ q. (x, rw q (unsigned-written (
     signed : eqb b 45 ≡ true → (y : Float) × Written (wholes (b ∷ r)) (decimals (b ∷ r)) y × (x ≡ cond (eqb b 45) (neg y) y)
     signed q = let v = negated-value (unsigned_of r) x (rw q at h) in (v.0, rw q (unsigned-written r v.0 v.1), rw q v.2)
 
-signed_round : (s : Bool) (a b : ℕ) → cond s (neg (round binary64 false a b)) (round binary64 false a b) ≡ round binary64 s a b
+pub signed_round : (s : Bool) (a b : ℕ) → cond s (neg (round binary64 false a b)) (round binary64 false a b) ≡ round binary64 s a b
 signed_round true a b = neg-round binary64 false a b
 signed_round false a b = refl
 
@@ -119,17 +117,3 @@ signed_round false a b = refl
 pub real-exact : (l : List ℕ) (x : Float) → real_of l ≡ Real.Value x
     → HasValue (double (numerator l)) false (numerator l) 1 × HasValue (double (denominator l)) false (denominator l) 1
 real-exact l x h = let v = real-written l x h in written-exact (wholes l) (decimals l) v.0 v.1
-
--- the value of a real is its decimal, rounded once
-pub real-rounded : (l : List ℕ) (x : Float) → real_of l ≡ Real.Value x → x ≡ round binary64 (has_minus l) (numerator l) (denominator l)
-real-rounded l x h =
-    let v = real-written l x h in
-    v.2 ∙ ap (λ (y : Float). cond (has_minus l) (neg y) y) (written-rounded (wholes l) (decimals l) v.0 v.1) ∙ signed_round (has_minus l) (numerator l) (denominator l)
-
--- and so it is the double nearest to the decimal that is written, ties to even
-pub real-nearest : (l : List ℕ) (x : Float) → real_of l ≡ Real.Value x → NearestDouble x (has_minus l) (numerator l) (denominator l)
-real-nearest l x h =
-    let v = real-written l x h in
-    let b : 1 ≤ denominator l = one-le-pow (length (decimals l)) 10 (lit< tt) in
-    let a : numerator l < 10 ^ 15 = written_small (wholes l) (decimals l) v.0 v.1 in
-    rw (real-rounded l x h) (round-nearest-small (has_minus l) (numerator l) (denominator l) b (omega arith))

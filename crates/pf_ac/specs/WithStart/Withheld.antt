@@ -19,7 +19,8 @@ use Rattle.layout.specs.Limits.{sum_at, limits_of}
 use Rattle.layout.specs.Limits.Laws.{qmin-at, qmax-at, sum-unread}
 use Rattle.qlim.specs.declared.Settled.{Settled}
 use Rattle.qlim.specs.Rounds.{Study, qlim_of, nothing}
-use Rattle.qlim.specs.Rounds.Unread.{AlikeStudies, rounds-unread}
+use Rattle.qlim.specs.Rounds.Unread.{AlikeStudies}
+use Rattle.qlim.proofs.Unread.{rounds-unread}
 use Rattle.starts.specs.declared.AcStart.{AcStart}
 use Rattle.starts.specs.declared.AcStart.TheVariants.{Flat}
 use Rattle.pf_ac.specs.Search.{nth_start, try_of, search_from, start_count, search_of}

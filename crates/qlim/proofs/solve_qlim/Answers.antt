@@ -4,7 +4,8 @@ use mathlib.Core.Path.{◌≡◌, refl, sym, ◌∙◌}
 use native.Mathlib.Omega.{arith}
 use lib.Ieee.{div, of_bits}
 use Rattle.newton.specs.Newton.Laws.{fuel}
-use Rattle.qlim.specs.Rounds.Laws.{good-problem, rounds-short, rounds-still, rounds-spent, rounds-on, rounds-begin}
+use Rattle.qlim.specs.Rounds.Laws.{good-problem, rounds-begin}
+use Rattle.qlim.proofs.Rounds.{rounds-short, rounds-still, rounds-spent, rounds-on}
 use Rattle.qlim.proofs.solve_qlim.Goals as goal
 
 -- ---- before the rounds

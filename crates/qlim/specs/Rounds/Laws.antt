@@ -17,20 +17,20 @@ use Rattle.layout.specs.Layout.Laws.{dim-most}
 use Rattle.moves.specs.declared.Move.{Move}
 use Rattle.moves.specs.declared.Track.{Track}
 use Rattle.moves.specs.Moves.{moves_of, any_move, kinds_after, track_after, pinned}
-use Rattle.qlim.specs.Rounds.{Study, GoodStudy, Done, done, infinity, settle_of, problem_in, moves_in, done_with, round_of, last_round, earlier_round, rounds_from, fresh, qlim_of}
+use Rattle.qlim.specs.Rounds.{Study, GoodStudy, Done, infinity, problem_in, moves_in, done_with, round_of, last_round, earlier_round, rounds_from, fresh, qlim_of}
 
 -- a round, once Newton's end e and the workspace v that it leaves are known
 module _ (s : Study) (kinds : List BusKind) (t : Track) (e : Ended) (v : List Float) (after : Done) where
-  round-short : le tolerance e.residual ≡ true → round_of s kinds t (run e v) after ≡ done_with s kinds t (run e v) e.residual
+  pub round-short : le tolerance e.residual ≡ true → round_of s kinds t (run e v) after ≡ done_with s kinds t (run e v) e.residual
   unfolding round_of
   round-short h = rw h
 
   module _ (h : le tolerance e.residual ≡ false) (ms : List Move) (em : ms ≡ moves_in s kinds t e) where
-    round-still : any_move s.n ms ≡ false → round_of s kinds t (run e v) after ≡ done_with s kinds t (run e v) e.residual
+    pub round-still : any_move s.n ms ≡ false → round_of s kinds t (run e v) after ≡ done_with s kinds t (run e v) e.residual
     unfolding round_of
     round-still ha = rw (h, ← em, ha)
 
-    round-moved : any_move s.n ms ≡ true → round_of s kinds t (run e v) after ≡ after
+    pub round-moved : any_move s.n ms ≡ true → round_of s kinds t (run e v) after ≡ after
     unfolding round_of
     round-moved ha = rw (h, ← em, ha)
 
@@ -46,36 +46,21 @@ module _ (s : Study) (kinds : List BusKind) (t : Track) (p : Point) (w : List Fl
   here = rw (← ee, el) at (end-at (problem s.y l s.pd s.qd s.pg t.qsched) p w)
 
   -- what follows the moves, where k rounds more may be run
-  abbrev follows : ℕ → Done
+  abbrev pub follows : ℕ → Done
   follows zero = done_with s kinds t (run e v) infinity
   follows (suc k) =
       let next = kinds_after s.n kinds (moves_in s kinds t e) in
       rounds_from k s next (track_after s.n t s.limits s.qg (moves_in s kinds t e)) (pinned s.n next s.hold e.point) v
 
-  turn : (k : ℕ) → rounds_from k s kinds t p w ≡ round_of s kinds t (run e v) (follows k)
+  pub turn : (k : ℕ) → rounds_from k s kinds t p w ≡ round_of s kinds t (run e v) (follows k)
   unfolding rounds_from
   turn zero = ap (last_round s kinds t) same-run
   turn (suc k) = ap (λ (r : Run). earlier_round s kinds t r (rounds_from k s)) same-run
 
-  pub rounds-short : (k : ℕ) → le tolerance e.residual ≡ true → rounds_from k s kinds t p w ≡ done (settle_of s.n kinds t.qsched e e.residual) v
-  rounds-short k h = turn k ∙ round-short s kinds t e v (follows k) h
-
   module _ (h : le tolerance e.residual ≡ false) (ms : List Move)
       (em : ms ≡ moves_of s.n kinds s.limits t s.qd (injected_of s.n e.phasors).q e.point.vm s.hold) where
-    same-moves : ms ≡ moves_in s kinds t e
+    pub same-moves : ms ≡ moves_in s kinds t e
     same-moves = rw here at em
-
-    pub rounds-still : (k : ℕ) → any_move s.n ms ≡ false → rounds_from k s kinds t p w ≡ done (settle_of s.n kinds t.qsched e e.residual) v
-    rounds-still k ha = turn k ∙ round-still s kinds t e v (follows k) h ms same-moves ha
-
-    pub rounds-spent : any_move s.n ms ≡ true → rounds_from 0 s kinds t p w ≡ done (settle_of s.n kinds t.qsched e infinity) v
-    rounds-spent ha = turn 0 ∙ round-moved s kinds t e v (follows 0) h ms same-moves ha
-
-    pub rounds-on : (k : ℕ) → any_move s.n ms ≡ true → (next : List BusKind) → next ≡ kinds_after s.n kinds ms
-        → (u : Track) → u ≡ track_after s.n t s.limits s.qg ms → (q : Point) → q ≡ pinned s.n next s.hold e.point
-        → rounds_from (suc k) s kinds t p w ≡ rounds_from k s next u q v
-    rounds-on k ha next en u eu q eq =
-        turn (suc k) ∙ round-moved s kinds t e v (follows (suc k)) h ms same-moves ha ∙ rw (← same-moves, ← en, ← eu, ← eq)
 
 pub rounds-begin : (s : Study) (kinds : List BusKind) (p start : Point) → start ≡ pinned s.n kinds s.hold p
     → (w : List Float) → rounds_from 11 s kinds (fresh s.qg) start w ≡ qlim_of s kinds p w

@@ -1,5 +1,5 @@
 -- Demand 3 at this level: what the rounds give does not change with withheld figures. Assumes nothing.
-use Prim.Native.Nat.{ℕ, zero, suc, ◌≤◌, ◌<◌}
+use Prim.Native.Nat.{ℕ, ◌≤◌, ◌<◌}
 use Rattle.std.specs.Prelude.{Bool, cond, ◌⊎◌, ◌≡◌, length, get_or, Float}
 use mathlib.Core.List.{List}
 use Rattle.std.proofs.Common.{inl, inr, ◌∙◌, arith}
@@ -15,7 +15,8 @@ use Rattle.layout.specs.declared.Point.{Point}
 use Rattle.layout.specs.Table.Laws.{stores-length, stores_at, stores-ext, table_at}
 use Rattle.layout.specs.Layout.{kind_of, layout_of}
 use Rattle.layout.specs.Residual.{powers, residual_of}
-use Rattle.layout.specs.Residual.Laws.{NoActive, NoReactive, residual-unread}
+use Rattle.layout.specs.Residual.Laws.{NoActive, NoReactive}
+use Rattle.layout.proofs.Unread.{residual-unread}
 use Rattle.injections.specs.Injections.{injections_of}
 use Rattle.newton.specs.Newton.{Problem, problem, measured_of, newton_of, Run, ended_of, space_after}
 use Rattle.newton.specs.Newton.Laws.{newton-same}
@@ -44,16 +45,16 @@ pub record AlikeStudies (kinds : List BusKind) (s u : Study) : Type 0 where
   pub qg_fits : s.n ≤ length u.qg
 
 -- u's figures in the study s
-abbrev with : Study → Study → Study
+abbrev pub with : Study → Study → Study
 with s u =
     study s.n s.y u.pd u.qd u.pg u.qg (record { qmin = u.limits.qmin; qmax = u.limits.qmax; has_gen = s.limits.has_gen }) s.hold
 
-abbrev track : List Float → List ℕ → List Bool → Track
+abbrev pub track : List Float → List ℕ → List Bool → Track
 track x c r = record { qsched = x; converted = c; reverted = r }
 
 module _ (d : List BusKind) (s u : Study) (few : s.n ≤ 32) (a : AlikeStudies d s u) where
   -- each bus as it stands in some round
-  record Stand (kinds : List BusKind) (c : List ℕ) (x y : List Float) : Type 0 where
+  pub record Stand (kinds : List BusKind) (c : List ℕ) (x y : List Float) : Type 0 where
     kinds_room : s.n ≤ length kinds
     converted_room : s.n ≤ length c
     x_room : s.n ≤ length x
@@ -98,7 +99,7 @@ module _ (d : List BusKind) (s u : Study) (few : s.n ≤ 32) (a : AlikeStudies d
         let found = injections_of (layout_of s.n kinds).n s.y p.vm p.va in
         λ j. record { phasors = found.phasors; r = residual-alike found.power.p found.power.q j; residual = norm_of (layout_of s.n kinds).dim (residual-alike found.power.p found.power.q j) }
 
-    newton-alike : (p : Point) (w : List Float) → newton_of one p w ≡ newton_of other p w
+    pub newton-alike : (p : Point) (w : List Float) → newton_of one p w ≡ newton_of other p w
     newton-alike = newton-same one other refl refl measured-alike
 
     -- ---- the moves
@@ -150,11 +151,11 @@ module _ (d : List BusKind) (s u : Study) (few : s.n ≤ 32) (a : AlikeStudies d
 
   -- ---- the rounds
 
-  abbrev Rest : Type 0
+  abbrev pub Rest : Type 0
   Rest = List BusKind → Track → Point → List Float → Done
 
   -- whatever goes on from tables that stand goes on alike
-  abbrev Alike : Rest → Rest → Type 0
+  abbrev pub Alike : Rest → Rest → Type 0
   Alike f g =
       (kinds : List BusKind) (c : List ℕ) (r : List Bool) (x y : List Float) → Stand kinds c x y → (p : Point) (w : List Float) → f kinds (track x c r) p w ≡ g kinds (track y c r) p w
 
@@ -189,7 +190,7 @@ module _ (d : List BusKind) (s u : Study) (few : s.n ≤ 32) (a : AlikeStudies d
         let end = ends z (ended_of e).residual in
         cond (le tolerance (ended_of e).residual) end (cond (any_move s.n ms) after end)
 
-    last-alike : last_round s kinds (track x c r) e ≡ last_round (with s u) kinds (track y c r) e
+    pub last-alike : last_round s kinds (track x c r) e ≡ last_round (with s u) kinds (track y c r) e
     unfolding round_of
     last-alike =
         let q = schedule_of s.n kinds y in
@@ -202,7 +203,7 @@ module _ (d : List BusKind) (s u : Study) (few : s.n ≤ 32) (a : AlikeStudies d
         let next = kinds_after s.n kinds ms in
         rest next (track_to s.n (track z c r) t.limits t.qg ms) (pinned s.n next s.hold at_end) (space_after e)
 
-    earlier-alike : (f g : Rest) → Alike f g → earlier_round s kinds (track x c r) e f ≡ earlier_round (with s u) kinds (track y c r) e g
+    pub earlier-alike : (f g : Rest) → Alike f g → earlier_round s kinds (track x c r) e f ≡ earlier_round (with s u) kinds (track y c r) e g
     unfolding round_of track_after
     earlier-alike f g alike =
         let ms = moves kinds c x y i r q_end at_end.vm in
@@ -211,14 +212,7 @@ module _ (d : List BusKind) (s u : Study) (few : s.n ≤ 32) (a : AlikeStudies d
         ∙ ap (λ (z : List Float). turned z ms (goes g (with s u) y ms)) schedule-alike
         ∙ ap (λ (m : List Move). turned q m (goes g (with s u) y m)) same-moves
 
-  rounds-alike : (k : ℕ) → Alike (rounds_from k s) (rounds_from k (with s u))
-  unfolding rounds_from
-  rounds-alike zero kinds c r x y i p w = ap (last_round s kinds (track x c r)) (newton-alike kinds c x y i p w) ∙ last-alike kinds c r x y i _
-  rounds-alike (suc k) kinds c r x y i p w =
-      ap (λ (e : Run). earlier_round s kinds (track x c r) e (rounds_from k s)) (newton-alike kinds c x y i p w)
-      ∙ earlier-alike kinds c r x y i _ (rounds_from k s) (rounds_from k (with s u)) (rounds-alike k)
-
-  begin : Stand d (fresh s.qg).converted s.qg u.qg
+  pub begin : Stand d (fresh s.qg).converted s.qg u.qg
   begin =
       record {
         kinds_room = a.kinds_fit;
@@ -235,22 +229,7 @@ module _ (d : List BusKind) (s u : Study) (few : s.n ≤ 32) (a : AlikeStudies d
 
 -- ---- what the rounds give
 
--- whatever the start and the workspace
-pub rounds-unread : (kinds : List BusKind) (s u : Study) → s.n ≤ 32 → AlikeStudies kinds s u → (p : Point) (w : List Float)
-    → qlim_of s kinds p w ≡ qlim_of u kinds p w
-unfolding qlim_of
-rounds-unread kinds s u few a p w = by 11
-  where
-    -- the start, over any number of rounds
-    from : ℕ → Study → Done
-    from m t = rounds_from m t kinds (fresh t.qg) (pinned t.n kinds t.hold p) w
-
-    by : (m : ℕ) → from m s ≡ from m u
-    by m =
-        rounds-alike kinds s u few a m kinds _ _ _ _ (begin kinds s u few a) _ w
-        ∙ (λ j. from m (study (a.same_n j) (a.same_y j) u.pd u.qd u.pg u.qg (record { qmin = u.limits.qmin; qmax = u.limits.qmax; has_gen = a.same_gens j }) (a.same_hold j)))
-
--- and of the start only what is left of it once the held magnitudes are set
+-- of the start only what is left of it once the held magnitudes are set
 pub start-unread : (kinds : List BusKind) (s : Study) (p q : Point) → pinned s.n kinds s.hold p ≡ pinned s.n kinds s.hold q → (w : List Float)
     → qlim_of s kinds p w ≡ qlim_of s kinds q w
 unfolding qlim_of
