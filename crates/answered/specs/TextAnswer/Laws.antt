@@ -29,7 +29,8 @@ use Rattle.case_text.specs.Text.Laws.{Accepted, Where, accepted-has, text-sound,
 use Rattle.case_text.specs.Named.{LowestLine}
 use Rattle.case_text.specs.Named.Laws.{lines_of, branch-lines-of, told_line}
 use Rattle.case_text.specs.Before.{MovedText}
-use Rattle.case_text.specs.Before.Laws.{read_kept, read-before}
+use Rattle.case_text.specs.Before.Laws.{read_kept}
+use Rattle.case_text.proofs.Before.{read-before}
 use Rattle.case_text.specs.Old.{accepted-first}
 use Rattle.case_text.specs.Answer as Reader
 use Rattle.case_text.specs.Answer.{with_room, judged_of, filled_of, branch_filled_of, result_of, read_first_by, read_second_by}

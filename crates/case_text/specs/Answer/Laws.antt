@@ -13,7 +13,7 @@ use Rattle.network.specs.BranchTable.{BranchNetwork, branch_room_of, RoomBranchT
 use Rattle.network.specs.BranchTable.Laws.{room-branch-table}
 use Rattle.fields.specs.Real.{allowed}
 use Rattle.rows.specs.Asked.{size_of}
-use Rattle.rows.specs.Printed.Laws.{section-rows, section-most}
+use Rattle.rows.proofs.Printed.{section-rows, section-most}
 use Rattle.rows.specs.declared.Section.{Section}
 use Rattle.rows.specs.declared.Check.TheVariants as Check
 use Rattle.columns.specs.Columns.{row_count}

@@ -1,5 +1,5 @@
 -- Every text that 01's digit rule accepted is read as it was, its columns too; any other first-edition text is answered as it was, or it is moved. 01's reader is
--- that of the first edition. Assumes nothing.
+-- that of the first edition. What is answered to any text is in proofs/Before. Assumes nothing.
 use Rattle.std.specs.Prelude.{ℕ, ◌+◌, ◌≤◌, ◌<◌, ◌≡◌, true, ◌⊎◌, List, ltb, drop}
 use Rattle.std.proofs.Math.Path.{refl, sym}
 use Rattle.std.proofs.Common.{◌∙◌, arith}
@@ -15,7 +15,8 @@ use Rattle.fields.specs.Before.{allowed_before}
 use Rattle.rows.specs.Printed.{field_table}
 use Rattle.rows.specs.Printed.Laws.{section-sound}
 use Rattle.rows.specs.Before.{Behind, Moved}
-use Rattle.rows.specs.Before.Laws.{section-behind, check-before}
+use Rattle.rows.specs.Before.Laws.{section-behind}
+use Rattle.rows.proofs.Before.{check-before}
 use Rattle.rows.specs.declared.Section.{Section}
 use Rattle.rows.specs.declared.Check.{Check}
 use Rattle.columns.specs.Columns.{filled_branches}
@@ -27,7 +28,7 @@ use Rattle.trailer.specs.declared.Edition.TheVariants.{First}
 use Rattle.case_text.specs.Alphabet.{known_of}
 use Rattle.case_text.specs.Text.{then_section, part_by, part_of, after_l, after_g, after_r, after_b, body_by, body_of, after_trailer, after_length, text_by, checked_text, text_of}
 use Rattle.case_text.specs.Text.Laws.{has-by}
-use Rattle.case_text.specs.Answer.{paper_of, with_room, tables_by, filled_of, read_result, result_of, read_first_by, read_first}
+use Rattle.case_text.specs.Answer.{paper_of, with_room, tables_by, filled_of, read_result, read_first_by, read_first}
 use Rattle.case_text.specs.Printed.Laws.{slice-join}
 use Rattle.case_text.specs.Old.{accepted-first}
 use Rattle.case_text.specs.Before.{BehindText, MovedText}
@@ -164,22 +165,3 @@ module _ (s : List ℕ) where
     read_kept =
         let v = with_room (Reading.Good c) (room_of old) in
         rw (h, first-kept c h) (λ i. read_result (paper_of v) (on_given (paper_of v) (λ d. tables-kept i) old))
-
-  -- any text does, or it is moved
-  pub read-before : (old : Network) → (read_first s old ≡ read_first_by allowed_before s old) ⊎ MovedText s (trailer_start First s) (text_by allowed_before First s) (checked_text First s)
-  unfolding read_first_by
-  read-before old = ⊎_elim (λ e. inl (go (text_by allowed_before First s) refl (sym e))) (λ m. inr m) text-before
-    where
-      refusal : (v : Reading) → text_by allowed_before First s ≡ v → checked_text First s ≡ v
-          → ((n : Network) → result_of (with_room v (room_of old)) n old ≡ read_result (paper_of v) old) → read_first s old ≡ read_first_by allowed_before s old
-      refusal v h e same = rw (h, e) (same _ ∙ sym (same _))
-
-      go : (v : Reading) → text_by allowed_before First s ≡ v → checked_text First s ≡ v → read_first s old ≡ read_first_by allowed_before s old
-      go (Reading.Good c) h e = read_kept c h old
-      go (Reading.Length n) h e = refusal (Reading.Length n) h e (λ r. refl)
-      go (Reading.Trailer n) h e = refusal (Reading.Trailer n) h e (λ r. refl)
-      go (Reading.Byte n) h e = refusal (Reading.Byte n) h e (λ r. refl)
-      go (Reading.Rows n) h e = refusal (Reading.Rows n) h e (λ r. refl)
-      go (Reading.Form n) h e = refusal (Reading.Form n) h e (λ r. refl)
-      go (Reading.Field n) h e = refusal (Reading.Field n) h e (λ r. refl)
-      go Reading.Room h e = refusal Reading.Room h e (λ r. refl)

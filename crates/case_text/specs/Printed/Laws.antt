@@ -13,7 +13,8 @@ use Rattle.fields.specs.Decimal.{has_minus, numerator, denominator}
 use Rattle.rows.specs.Asked.{field_count, want_of}
 use Rattle.rows.specs.Rows.{rows_of}
 use Rattle.rows.specs.Printed.{field_table}
-use Rattle.rows.specs.Printed.Laws.{section-printed, section-sound, SoundBy}
+use Rattle.rows.specs.Printed.Laws.{section-sound, SoundBy}
+use Rattle.rows.proofs.Printed.{section-printed}
 use Rattle.rows.specs.declared.Section.{Section}
 use Rattle.rows.specs.declared.Check.TheVariants as Check
 use Rattle.columns.specs.Columns.{row_count, cell_of, real_field}

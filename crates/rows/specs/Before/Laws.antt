@@ -1,8 +1,7 @@
--- A section's check by 01's digit rule and by 02's. Assumes nothing.
-use Rattle.std.specs.Prelude.{◌≡◌, refl, Bool, true, false, cond, ◌&&◌, ◌⊎◌, List, [], ◌∷◌, ◌++◌, map, leb, get_or, take, drop}
-use Rattle.std.proofs.Common.{sym, ◌∙◌, ⊎_elim, append_assoc, zero-add, drop-drop}
+-- A section's check by 01's digit rule and by 02's: of its fields and of a line; proofs/Before tells it of the lines and of the section. Assumes nothing.
+use Rattle.std.specs.Prelude.{◌≡◌, refl, Bool, true, false, cond, ◌&&◌, ◌⊎◌, List, [], ◌∷◌, ◌++◌, leb, get_or, take, drop}
+use Rattle.std.proofs.Common.{sym, ◌∙◌, ⊎_elim, append_assoc, drop-drop}
 use Rattle.std.proofs.Math.Path.{ap}
-use Rattle.std.proofs.Math.Bool.{and-false}
 use Rattle.std.proofs.Math.Logic.{inl, inr}
 use Prim.Native.Nat.{ℕ, suc, ◌+◌, ◌<◌}
 use native.Mathlib.Omega.{arith}
@@ -11,15 +10,15 @@ use Rattle.std.proofs.Math.ListN.{length, length-append}
 use Rattle.std.proofs.Math.Seq.{take-append_seam, drop-append_seam}
 use Rattle.real.specs.Tests.{decided, true-false}
 use Rattle.fields.specs.Cut.{empty, only, pieces}
-use Rattle.fields.specs.Real.{DigitRule, allowed, is_real}
+use Rattle.fields.specs.Real.{allowed, is_real}
 use Rattle.fields.specs.Before.{allowed_before, Spared}
 use Rattle.fields.specs.Before.Laws.{real-kept, or-nan-kept, real-spared}
 use Rattle.rows.specs.Asked.{size_of, want_of, good_by}
 use Rattle.rows.specs.Line.{form_of, fields_by, line_by}
-use Rattle.rows.specs.Rows.{after, section_by, check_by, check_of, ended}
-use Rattle.rows.specs.Printed.{spread, fields_in, field_table}
-use Rattle.rows.specs.Printed.Laws.{join, join-pieces, line-printed}
-use Rattle.rows.specs.Before.{Behind, Freed, Moved}
+use Rattle.rows.specs.Rows.{after, section_by}
+use Rattle.rows.specs.Printed.{spread, fields_in}
+use Rattle.rows.specs.Printed.Laws.{line-printed}
+use Rattle.rows.specs.Before.{Behind, Freed}
 use Rattle.rows.specs.declared.Section.{Section}
 use Rattle.rows.specs.declared.Want.{Want}
 use Rattle.rows.specs.declared.Check.{Check}
@@ -56,7 +55,7 @@ line-behind : (z : Section) (p at : ℕ) (l : List ℕ) → p < at → Behind p 
 line-behind z p at l h =
     ⊎_elim (λ q. rw q (fields-behind z p 0 (at + 2) (fields_in l) (omega arith))) (λ q. rw q h) (decided (form_of z (pieces 32 l)))
 
-after-behind : (p : ℕ) (v w : Check) → Behind p v → Behind p w → Behind p (after v w)
+pub after-behind : (p : ℕ) (v w : Check) → Behind p v → Behind p w → Behind p (after v w)
 after-behind p (Check.Good n) w h k = k
 after-behind p (Check.Rows n) w h k = h
 after-behind p (Check.Form n) w h k = h
@@ -75,16 +74,16 @@ section-behind z p r at (l ∷ ls) h =
 
 -- ---- the fields of a line, from the space at b on: field i of these is the one that is freed
 
-record MovedField (s : List ℕ) (z : Section) (j end : ℕ) (fs : List (List ℕ)) (v v' : Check) : Type 0 where
-  place : ℕ
-  was : v ≡ Check.Field place
-  i : ℕ
-  inside : i < length fs
-  stands : take (length (get_or fs i [])) (drop place s) ≡ get_or fs i []
-  refused : good_by allowed_before (want_of z (j + i)) (get_or fs i []) ≡ false
-  taken : good_by allowed (want_of z (j + i)) (get_or fs i []) ≡ true
-  now : Behind place v'
-  within : place < end
+pub record MovedField (s : List ℕ) (z : Section) (j end : ℕ) (fs : List (List ℕ)) (v v' : Check) : Type 0 where
+  pub place : ℕ
+  pub was : v ≡ Check.Field place
+  pub i : ℕ
+  pub inside : i < length fs
+  pub stands : take (length (get_or fs i [])) (drop place s) ≡ get_or fs i []
+  pub refused : good_by allowed_before (want_of z (j + i)) (get_or fs i []) ≡ false
+  pub taken : good_by allowed (want_of z (j + i)) (get_or fs i []) ≡ true
+  pub now : Behind place v'
+  pub within : place < end
 
 -- the same check, or one that is moved
 abbrev FieldsBefore : List ℕ → Section → ℕ → ℕ → List (List ℕ) → Type 0
@@ -150,14 +149,14 @@ fields_before s z j b (f ∷ fs) tl e =
     (λ g. ⊎_elim (fields-freed s z j b f fs r e' g) (fields-wrong s z j b f fs g) (decided (good_by allowed (want_of z j) f)))
     (decided (good_by allowed_before (want_of z j) f))
 
--- ---- a line, and the lines of a section
+-- ---- a line
 
-abbrev LineBefore : List ℕ → Section → ℕ → List ℕ → Type 0
+abbrev pub LineBefore : List ℕ → Section → ℕ → List ℕ → Type 0
 LineBefore s z at l =
     (line_by allowed_before z at l ≡ line_by allowed z at l)
     ⊎ MovedField s z 0 (at + length l + 1) (fields_in l) (line_by allowed_before z at l) (line_by allowed z at l)
 
-line_before : (s : List ℕ) (z : Section) (at : ℕ) (l tl : List ℕ) → drop at s ≡ l ++ tl → LineBefore s z at l
+pub line_before : (s : List ℕ) (z : Section) (at : ℕ) (l tl : List ℕ) → drop at s ≡ l ++ tl → LineBefore s z at l
 line_before s z at l tl e = ⊎_elim formed (λ q. inl (rw q)) (decided (form_of z (pieces 32 l)))
   where
     formed : form_of z (pieces 32 l) ≡ true → LineBefore s z at l
@@ -168,78 +167,3 @@ line_before s z at l tl e = ⊎_elim formed (λ q. inl (rw q)) (decided (form_of
         let start : at + 1 + 1 ≡ at + 2 = omega arith in
         let end : at + 2 + length (spread 32 fs) ≡ at + length l + 1 = omega (arith, ap length p) in
         rw q (rw (start, end) at (fields_before s z 0 (at + 1) fs tl rest))
-
--- a line before those that are checked: where it is good, what was moved of them is moved; where it is refused, so is all
-one-line-more : (s : List ℕ) (z : Section) (fs : List (List ℕ)) (rows : List (List (List ℕ))) (w v v' : Check) (m : Moved s z rows v v')
-    → (after w v ≡ after w v') ⊎ ((n : Moved s z (fs ∷ rows) (after w v) (after w v')) × (n.place ≡ m.place))
-one-line-more s z fs rows (Check.Good n) v v' m =
-    let f = m.freed in
-    let freed : Freed s m.place z (fs ∷ rows) (suc m.row) m.column = record { inside = omega (arith, f.inside); field = f.field; stands = f.stands; refused = f.refused; taken = f.taken } in
-    inr (record { place = m.place; was = m.was; row = suc m.row; column = m.column; freed = freed; now = m.now }, refl)
-one-line-more s z fs rows (Check.Rows n) v v' m = inl refl
-one-line-more s z fs rows (Check.Form n) v v' m = inl refl
-one-line-more s z fs rows (Check.Field n) v v' m = inl refl
-
--- the rows that are read of the lines, and what their check was and is
-abbrev SectionBefore : List ℕ → Section → ℕ → ℕ → List (List ℕ) → Type 0
-SectionBefore s z r at ls =
-    let v = section_by allowed_before z r at ls in
-    let v' = section_by allowed z r at ls in
-    (v ≡ v') ⊎ ((m : Moved s z (map fields_in (ended ls)) v v') × (m.place < at + length (join 10 ls)))
-
-module _ (s : List ℕ) (z : Section) (r at : ℕ) (l m : List ℕ) (ms : List (List ℕ)) where
-  -- a line that is no more than its table has room for
-  section-turn : (rule : DigitRule) → leb (size_of z) r ≡ false
-      → section_by rule z r at (l ∷ m ∷ ms) ≡ after (line_by rule z at l) (section_by rule z (r + 1) (at + length l + 1) (m ∷ ms))
-  unfolding section_by
-  section-turn rule q = rw (and-false, q)
-
-  section-full : (rule : DigitRule) → leb (size_of z) r ≡ true → section_by rule z r at (l ∷ m ∷ ms) ≡ Check.Rows at
-  unfolding section_by
-  section-full rule q = rw (and-false, q)
-
-  module _ (q : leb (size_of z) r ≡ false) where
-    -- the line moved
-    line-moved : MovedField s z 0 (at + length l + 1) (fields_in l) (line_by allowed_before z at l) (line_by allowed z at l) → SectionBefore s z r at (l ∷ m ∷ ms)
-    unfolding ended spread
-    line-moved f =
-        rw (section-turn allowed_before q, section-turn allowed q)
-        (inr (
-          record {
-            place = f.place;
-            was = ap (λ (v : Check). after v (section_by allowed_before z (r + 1) (at + length l + 1) (m ∷ ms))) f.was;
-            row = 0;
-            column = f.i;
-            freed = record { inside = zero-lt-suc _; field = f.inside; stands = f.stands; refused = rw (zero-add f.i) at f.refused; taken = rw (zero-add f.i) at f.taken };
-            now = after-behind f.place (line_by allowed z at l) _ f.now (section-behind z f.place (r + 1) (at + length l + 1) (m ∷ ms) f.within);
-          },
-          rw length-append (omega (arith, f.within)),
-        ))
-
-    -- it did not: the next ones tell
-    line_same : line_by allowed_before z at l ≡ line_by allowed z at l → SectionBefore s z (r + 1) (at + length l + 1) (m ∷ ms) → SectionBefore s z r at (l ∷ m ∷ ms)
-    unfolding ended spread
-    line_same e (inl k) = inl (rw (section-turn allowed_before q, section-turn allowed q, e, k))
-    line_same e (inr k) =
-        rw (section-turn allowed_before q, section-turn allowed q, e)
-        (⊎_elim (λ g. inl g) (λ g. inr (g.0, rw (g.1, length-append) (omega (arith, k.1)))) (one-line-more s z (fields_in l) _ (line_by allowed z at l) _ _ k.0))
-
--- a section's check is what it was by 01's rule, or it is moved
-section-before : (s : List ℕ) (z : Section) (r at : ℕ) (ls : List (List ℕ)) (tl : List ℕ) → drop at s ≡ join 10 ls ++ tl → SectionBefore s z r at ls
-unfolding spread
-section-before s z r at [] tl e = inl (unfold section_by in refl)
-section-before s z r at (l ∷ []) tl e = inl (unfold section_by in refl)
-section-before s z r at (l ∷ m ∷ ms) tl e =
-    let rest = spread 10 (m ∷ ms) ++ tl in
-    let here : drop at s ≡ l ++ rest = e ∙ append_assoc l (spread 10 (m ∷ ms)) tl in
-    let next : drop (at + length l + 1) s ≡ join 10 (m ∷ ms) ++ tl =
-    sym (drop-drop 1 (at + length l) s) ∙ ap (drop 1) (sym (drop-drop (length l) at s) ∙ ap (drop (length l)) here ∙ drop-append_seam l rest) in
-    ⊎_elim (λ q. inl (rw (section-full s z r at l m ms allowed_before q, section-full s z r at l m ms allowed q)))
-    (λ q. ⊎_elim (λ k. line_same s z r at l m ms q k (section-before s z (r + 1) (at + length l + 1) (m ∷ ms) tl next)) (line-moved s z r at l m ms q) (line_before s z at l rest here))
-    (decided (leb (size_of z) r))
-
--- the same of a section's bytes, which stand at `at`
-pub check-before : (s : List ℕ) (z : Section) (at : ℕ) (l tl : List ℕ) → drop at s ≡ l ++ tl
-    → (check_by allowed_before z at l ≡ check_of z at l) ⊎ ((m : Moved s z (field_table l) (check_by allowed_before z at l) (check_of z at l)) × (m.place < at + length l))
-check-before s z at l tl e =
-    rw (join-pieces 10 l) at (section-before s z 0 at (pieces 10 l) tl (e ∙ ap (λ (x : List ℕ). x ++ tl) (sym (join-pieces 10 l))))

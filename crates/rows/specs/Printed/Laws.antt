@@ -1,4 +1,5 @@
 -- No byte of an accepted section is skipped: it is its rows, printed; what it answers is how many they are; and each field is good.
+-- Of its lines it is proved here, of the section's bytes in proofs/Printed.
 -- Assumes nothing.
 use Rattle.std.specs.Prelude.{◌≡◌, refl, Bool, true, false, cond, eqb, leb, get_or}
 use Rattle.std.proofs.Common.{sym, ap, ◌∙◌, not-suc-le-zero, le_of_suc-le-suc, zero-add, eqb-true, leb-false}
@@ -15,7 +16,7 @@ use Rattle.fields.specs.Real.{DigitRule, allowed}
 use Rattle.real.specs.Tests.{decided, true-false, no-case, and_left, and_right}
 use Rattle.rows.specs.Asked.{section_letter, field_count, size_of, want_of, good_by}
 use Rattle.rows.specs.Line.{all_some, form_of, fields_by, line_by, line_of, tail}
-use Rattle.rows.specs.Rows.{after, section_by, section_of, check_by, check_of, ended, rows_of}
+use Rattle.rows.specs.Rows.{after, section_by, section_of, check_by, ended, rows_of}
 use Rattle.rows.specs.Rows.Laws.{pieces-some}
 use Rattle.rows.specs.Printed.{spread, fields_in, field_table, printed}
 use Rattle.rows.specs.declared.Section.{Section}
@@ -90,7 +91,7 @@ counted z (f ∷ fs) h = rw (zero-add (length fs)) at (eqb-true (0 + length fs) 
 
 -- ---- a section
 
-lines-printed : (z : Section) (r at : ℕ) (ps : List (List ℕ)) (n : ℕ) → empty ps ≡ false → section_of z r at ps ≡ Check.Good n
+pub lines-printed : (z : Section) (r at : ℕ) (ps : List (List ℕ)) (n : ℕ) → empty ps ≡ false → section_of z r at ps ≡ Check.Good n
     → join 10 ps ≡ printed z (map fields_in (ended ps))
 unfolding section_by ended printed spread
 lines-printed z r at [] n g h = absurd (true-false refl g)
@@ -107,14 +108,10 @@ lines-printed z r at (l ∷ m ∷ ms) n g h =
     (lines-printed z (r + 1) (at + length l + 1) (m ∷ ms) n refl (after-rest (line_of z at l) _ n v)))
     (decided (leb (size_of z) r))
 
--- an accepted section is its rows, printed
-pub section-printed : (z : Section) (at : ℕ) (l : List ℕ) (n : ℕ) → check_of z at l ≡ Check.Good n → l ≡ printed z (field_table l)
-section-printed z at l n h = sym (join-pieces 10 l) ∙ lines-printed z 0 at (pieces 10 l) n (pieces-some 10 l) h
-
 good-is : (m n : ℕ) → Check.Good m ≡ Check.Good n → n ≡ m
 good-is m n h = cc
 
-lines-count : (z : Section) (r at : ℕ) (ps : List (List ℕ)) (n : ℕ) → empty ps ≡ false → section_of z r at ps ≡ Check.Good n → n ≡ r + length (ended ps)
+pub lines-count : (z : Section) (r at : ℕ) (ps : List (List ℕ)) (n : ℕ) → empty ps ≡ false → section_of z r at ps ≡ Check.Good n → n ≡ r + length (ended ps)
 unfolding section_by ended
 lines-count z r at [] n g h = absurd (true-false refl g)
 lines-count z r at (l ∷ []) n g h =
@@ -125,11 +122,7 @@ lines-count z r at (l ∷ m ∷ ms) n g h =
     (λ q. let e = lines-count z (r + 1) (at + length l + 1) (m ∷ ms) n refl (after-rest (line_of z at l) _ n (rw q at k)) in omega arith)
     (decided (leb (size_of z) r))
 
--- what an accepted section answers is the number of its rows
-pub section-rows : (z : Section) (at : ℕ) (l : List ℕ) (n : ℕ) → check_of z at l ≡ Check.Good n → n ≡ length (rows_of l)
-section-rows z at l n h = let e = lines-count z 0 at (pieces 10 l) n (pieces-some 10 l) h in omega arith
-
-lines-most : (z : Section) (r at : ℕ) (ps : List (List ℕ)) (n : ℕ) → empty ps ≡ false → r ≤ size_of z → section_of z r at ps ≡ Check.Good n → n ≤ size_of z
+pub lines-most : (z : Section) (r at : ℕ) (ps : List (List ℕ)) (n : ℕ) → empty ps ≡ false → r ≤ size_of z → section_of z r at ps ≡ Check.Good n → n ≤ size_of z
 unfolding section_by
 lines-most z r at [] n g b h = absurd (true-false refl g)
 lines-most z r at (l ∷ []) n g b h =
@@ -139,10 +132,6 @@ lines-most z r at (l ∷ m ∷ ms) n g b h =
     ⊎_elim (λ q. never (Check.Rows at) n (rw q at k) refl)
     (λ q. lines-most z (r + 1) (at + length l + 1) (m ∷ ms) n refl (let e = leb-false (size_of z) r q in omega arith) (after-rest (line_of z at l) _ n (rw q at k)))
     (decided (leb (size_of z) r))
-
--- an accepted section has no more rows than its table
-pub section-most : (z : Section) (at : ℕ) (l : List ℕ) (n : ℕ) → check_of z at l ≡ Check.Good n → n ≤ size_of z
-section-most z at l n h = lines-most z 0 at (pieces 10 l) n (pieces-some 10 l) (omega arith) h
 
 -- ---- every field of an accepted section is good, by any digit rule
 
