@@ -76,7 +76,7 @@ needed() { # CRATE
 
 # The crates that the log says are proved, each once.
 proved_so_far() {
-    sed -n -E 's/^rt: ([a-z0-9_]+) proved$/\1/p; s/^crate ([a-z0-9_]+): modules .*/\1/p' "$log" 2>/dev/null | awk '!seen[$0]++'
+    sed -n -E 's/^rt: ([a-z0-9_]+) (proved|is kept: .*)$/\1/p; s/^crate ([a-z0-9_]+): modules .*/\1/p' "$log" 2>/dev/null | awk '!seen[$0]++'
 }
 
 # How many are done of how many, what is worked on, and the time so far: one line, updated in place, on a terminal; elsewhere a line for each that is done.
