@@ -59,13 +59,13 @@ wait_for_other() {
 needed() { # CRATE
     awk -v top="$1" '
         { sub(/#.*/, "") }
-        $1 ~ /:$/ { name = substr($1, 1, length($1) - 1); needs[name] = $0 }
+        /:/ { name = $1; sub(/:$/, "", name); sub(/^[^:]*:/, ""); needs[name] = $0 }
         function reach(name,    k, n, part) {
             if (!(name in needs) || name in seen) return
             seen[name] = 1
             count++
             n = split(needs[name], part, " ")
-            for (k = 2; k <= n; k++) reach(part[k])
+            for (k = 1; k <= n; k++) reach(part[k])
         }
         END {
             if (top != "") reach(top)
