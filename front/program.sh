@@ -59,7 +59,7 @@ find_loader() {
     if [ "$(uname -m)" = x86_64 ] && [ -e "$loader" ]; then return 0; fi
     command -v rt >/dev/null || give_up "the program is compiled for Linux on x86-64 with glibc 2.34 or later; this machine ($(uname -s), $(uname -m)) can run it" \
         "with the Rattle toolchain alone, and its command rt is not on the PATH"
-    libraries=$(dirname "$(dirname "$(rt doc)")")/on/$(uname -m)/toolchain/lib
+    libraries=$(dirname "$(rt doc)")/on/$(uname -m)/toolchain/lib
     loader=$libraries/ld-linux-x86-64.so.2
     emulator=$(dirname "$libraries")/bin/qemu-x86_64
     [ -x "$emulator" ] || emulator=''
