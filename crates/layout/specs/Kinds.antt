@@ -6,6 +6,12 @@ use Rattle.layout.specs.declared.BusKind.{BusKind}
 use Rattle.layout.specs.declared.BusKind.TheVariants.{Slack, Pv, Pq}
 use Rattle.layout.specs.Table.{table}
 
+-- the kind as its letter's byte: S, V, Q
+abbrev pub kind_letter : BusKind → ℕ
+kind_letter Slack = 83
+kind_letter Pv = 86
+kind_letter Pq = 81
+
 -- V where flagged: byte 86 is the letter V
 abbrev pub flag_kind : ℕ → BusKind
 flag_kind byte = cond (eqb byte 86) Pv Pq

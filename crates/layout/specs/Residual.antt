@@ -5,6 +5,7 @@ use Rattle.std.specs.Float.{nan, binary64}
 use Rattle.std.specs.Float.Ieee.{sub}
 use Rattle.real.specs.Literals.{nought}
 use Rattle.layout.specs.declared.AcPfLayout.{AcPfLayout}
+use Rattle.layout.specs.declared.PowerColumns.{PowerColumns}
 use Rattle.layout.specs.Layout.{none, p_row, q_row}
 
 -- what the residual is made of: demands, generation, and what the voltages give
@@ -18,6 +19,10 @@ pub record Powers : Type 0 where
 
 abbrev pub powers : List Float → List Float → List Float → List Float → List Float → List Float → Powers
 powers pd qd pg qg p q = record { pd = pd; qd = qd; pg = pg; qg = qg; p = p; q = q }
+
+-- the same of the program's columns
+abbrev pub powers_in : PowerColumns → Powers
+powers_in w = powers w.pd.now w.qd.now w.pg.now w.qg w.p w.q
 
 -- (g - d) - calc
 abbrev pub missing : Float → Float → Float → Float

@@ -4,14 +4,14 @@
 ghost use Rattle.std.specs.Prelude.{◌≡◌, ◌+◌, ◌<◌, ◌≤◌, length, get_or};
 ghost use Rattle.network.specs.Below.{Below};
 ghost use Rattle.layout.specs.Table.{table};
-ghost use Rattle.layout.specs.Kinds.{flag_kind, kinds_of};
-ghost use Rattle.layout.specs.Layout.{none, is_angle, has, number, after, count_to, number_at, layout_of, va_col, vm_col, p_row, q_row, kind_in};
-ghost use Rattle.layout.specs.Residual.{powers, missing, at_row, residual_of};
+ghost use Rattle.layout.specs.Kinds.{kind_letter, flag_kind, kinds_of};
+ghost use Rattle.layout.specs.Layout.{none, has, number, after, count_to, number_at, layout_of, va_col, vm_col, p_row, q_row, kind_in};
+ghost use Rattle.layout.specs.Residual.{powers_in, missing, at_row, residual_of};
 ghost use Rattle.layout.specs.Limits.{limits_of};
 ghost use Rattle.layout.specs.declared.BusKind.TheVariants.{Pq};
 
 // Bus role in the power flow: the reference slack, a voltage-regulating generator bus, or a load bus.
-#[derive(Clone, Copy)]
+#[derive(Clone, Copy, Debug, PartialEq, Eq)]
 pub enum BusKind {
     Slack,
     Pv,
@@ -19,7 +19,7 @@ pub enum BusKind {
 }
 
 // What may be unknown of a bus.
-#[derive(Clone, Copy)]
+#[derive(Clone, Copy, Debug, PartialEq, Eq)]
 pub enum Unknown {
     Angle,
     Magnitude,
@@ -45,6 +45,17 @@ pub struct Point {
     pub va: [f64; 32],
 }
 
+// What a residual is made of: demands, generation, and what the voltages give.
+#[derive(Clone, Copy)]
+pub struct PowerColumns<'a> {
+    pub pd: &'a [f64],
+    pub qd: &'a [f64],
+    pub pg: &'a [f64],
+    pub qg: [f64; 32],
+    pub p: [f64; 32],
+    pub q: [f64; 32],
+}
+
 // The reactive limits of each bus, and whether it has a generator.
 #[derive(Clone, Copy)]
 pub struct Limits {
@@ -54,6 +65,19 @@ pub struct Limits {
 }
 
 // ---- kinds
+
+impl BusKind {
+    // Its letter's byte.
+    pub fn letter(self) -> u8
+        ensures { result ≡ kind_letter self }
+    {
+        match self {
+            BusKind::Slack => b'S',
+            BusKind::Pv => b'V',
+            BusKind::Pq => b'Q',
+        }
+    }
+}
 
 fn flag_kind(byte: u8) -> BusKind
     ensures { result ≡ flag_kind byte }
@@ -71,8 +95,7 @@ fn flagged(n: usize, kind: &[u8]) -> [BusKind; 32]
 {
     let mut kinds = [BusKind::Pq; 32];
     for b in 0..n {
-        let k = flag_kind(kind[b]);
-        kinds[b] = k;
+        kinds[b] = flag_kind(kind[b]);
     }
     kinds
 }
@@ -83,8 +106,7 @@ pub fn default_kinds(n: usize, kind: &[u8], slacks: &[usize]) -> [BusKind; 32]
     ensures { result ≡ kinds_of n kind.now slacks.now }
 {
     let mut kinds = flagged(n, kind);
-    for i in 0..slacks.len() {
-        let b = slacks[i];
+    for &b in slacks {
         kinds[b] = BusKind::Slack;
     }
     kinds
@@ -92,24 +114,16 @@ pub fn default_kinds(n: usize, kind: &[u8], slacks: &[usize]) -> [BusKind; 32]
 
 // ---- columns
 
-// The unknown of a V bus.
-fn is_angle(u: Unknown) -> bool
-    ensures { result ≡ is_angle u }
-{
-    match u {
-        Unknown::Angle => true,
-        Unknown::Magnitude => false,
-    }
-}
-
-// Whether it has to be found at a bus of this kind.
-fn has(u: Unknown, k: BusKind) -> bool
-    ensures { result ≡ has u k }
-{
-    match k {
-        BusKind::Slack => false,
-        BusKind::Pv => is_angle(u),
-        BusKind::Pq => true,
+impl Unknown {
+    // Whether it has to be found at a bus of this kind.
+    fn is_at(self, kind: BusKind) -> bool
+        ensures { result ≡ has self kind }
+    {
+        match kind {
+            BusKind::Slack => false,
+            BusKind::Pv => self == Unknown::Angle,
+            BusKind::Pq => true,
+        }
     }
 }
 
@@ -143,7 +157,7 @@ fn numbers(u: Unknown, n: usize, kinds: [BusKind; 32], first: usize) -> Columns
     let mut of = [NONE; 32];
     let mut col = first;
     for b in 0..n {
-        let h = has(u, kinds[b]);
+        let h = u.is_at(kinds[b]);
         of[b] = number(h, col);
         col = after(h, col);
     }
@@ -200,12 +214,12 @@ impl AcPfLayout {
         let va = self.va_of[bus];
         let vm = self.vm_of[bus];
         if va == NONE {
-            return BusKind::Slack;
+            BusKind::Slack
+        } else if vm == NONE {
+            BusKind::Pv
+        } else {
+            BusKind::Pq
         }
-        if vm == NONE {
-            return BusKind::Pv;
-        }
-        BusKind::Pq
     }
 
     pub fn va_col(self, bus: usize) -> usize
@@ -238,24 +252,15 @@ impl AcPfLayout {
     }
 
     // The mismatch at each row that exists. The other places are 0.0.
-    pub fn residual(
-        self,
-        pd: &[f64],
-        qd: &[f64],
-        pg: &[f64],
-        qg: [f64; 32],
-        p_calc: [f64; 32],
-        q_calc: [f64; 32],
-    ) -> [f64; 64]
-        requires { (self.n ≤ 32) × (self.n ≤ length pd.now) × (self.n ≤ length qd.now) × (self.n ≤ length pg.now) }
-        ensures { result ≡ residual_of self (powers pd.now qd.now pg.now qg p_calc q_calc) }
+    pub fn residual(self, w: &PowerColumns) -> [f64; 64]
+        requires { (self.n ≤ 32) × (self.n ≤ length w.now.pd.now) × (self.n ≤ length w.now.qd.now) × (self.n ≤ length w.now.pg.now) }
+        ensures { result ≡ residual_of self (powers_in w.now) }
     {
-        let n = self.n;
         let mut r = [0.0; 64];
-        for b in 0..n {
-            let x = missing_power(pg[b], pd[b], p_calc[b]);
+        for b in 0..self.n {
+            let x = missing_power(w.pg[b], w.pd[b], w.p[b]);
             put(&mut r, self.va_of[b], x);
-            let y = missing_power(qg[b], qd[b], q_calc[b]);
+            let y = missing_power(w.qg[b], w.qd[b], w.q[b]);
             put(&mut r, self.vm_of[b], y);
         }
         r
@@ -274,8 +279,8 @@ pub fn aggregate_q(gen_bus: &[usize], qmin: &[f64], qmax: &[f64]) -> Limits
     let mut has_gen = [false; 32];
     for g in 0..gen_bus.len() {
         let b = gen_bus[g];
-        qmin_bus[b] = qmin_bus[b] + qmin[g];
-        qmax_bus[b] = qmax_bus[b] + qmax[g];
+        qmin_bus[b] += qmin[g];
+        qmax_bus[b] += qmax[g];
         has_gen[b] = true;
     }
     Limits {

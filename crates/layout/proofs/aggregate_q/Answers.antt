@@ -17,9 +17,6 @@ offset_bounds-qmin_bus-b c = omega (arith, (c.requires.2 c.loop-g.g (omega arith
 pub bounds-qmin_bus-b : goal.bounds-qmin_bus-b
 bounds-qmin_bus-b c = omega (arith, (c.requires.2 c.loop-g.g (omega arith)))
 
-pub offset_bounds-qmin_bus-b-in-loop-g : goal.offset_bounds-qmin_bus-b-in-loop-g
-offset_bounds-qmin_bus-b-in-loop-g c = omega (arith, (c.requires.2 c.loop-g.g (omega arith)))
-
 pub bounds-qmin_bus-b-in-loop-g : goal.bounds-qmin_bus-b-in-loop-g
 bounds-qmin_bus-b-in-loop-g c = omega (arith, (c.requires.2 c.loop-g.g (omega arith)))
 
@@ -28,9 +25,6 @@ offset_bounds-qmax_bus-b c = omega (arith, (c.requires.2 c.loop-g.g (omega arith
 
 pub bounds-qmax_bus-b : goal.bounds-qmax_bus-b
 bounds-qmax_bus-b c = omega (arith, (c.requires.2 c.loop-g.g (omega arith)))
-
-pub offset_bounds-qmax_bus-b-in-loop-g : goal.offset_bounds-qmax_bus-b-in-loop-g
-offset_bounds-qmax_bus-b-in-loop-g c = omega (arith, (c.requires.2 c.loop-g.g (omega arith)))
 
 pub bounds-qmax_bus-b-in-loop-g : goal.bounds-qmax_bus-b-in-loop-g
 bounds-qmax_bus-b-in-loop-g c = omega (arith, (c.requires.2 c.loop-g.g (omega arith)))

@@ -1,24 +1,24 @@
 -- `layout::default_kinds` meets its contract: after each row its bus is a slack. Assumes nothing.
-use mathlib.Core.Path.{◌≡◌, refl, ◌∙◌}
+use mathlib.Core.Path.{◌≡◌, ◌∙◌}
 use native.Mathlib.Omega.{arith}
 use lib.ListN.{length}
 use Rattle.layout.specs.Kinds.Laws.{kinds-begin, kinds-row, kinds-end}
 use Rattle.layout.proofs.default_kinds.Goals as goal
 
-pub loop-i-init : goal.loop-i-init
-loop-i-init c = let a = c.args in (omega arith, refl, c.flagged-kinds.ensures ∙ kinds-begin a.n a.kind.now a.slacks.now)
+pub loop-b-init : goal.loop-b-init
+loop-b-init c = let a = c.args in c.flagged-kinds.ensures ∙ kinds-begin a.n a.kind.now a.slacks.now
 
 pub bounds-kinds-b : goal.bounds-kinds-b
-bounds-kinds-b c = omega (arith, c.requires.2 c.loop-i.i (omega arith))
+bounds-kinds-b c = omega (arith, c.requires.2 c.loop-b.b-index (omega arith))
 
-pub loop-i-preserved : goal.loop-i-preserved
-loop-i-preserved c =
-    let l = c.loop-i in
-    (omega arith, l.invariant.1, rw l.invariant.2 (kinds-row c.args.n l.i c.args.kind.now c.args.slacks.now (c.requires.2 l.i (omega arith)) c.requires.0))
+pub loop-b-preserved : goal.loop-b-preserved
+loop-b-preserved c =
+    let l = c.loop-b in
+    rw l.invariant (kinds-row c.args.n l.b-index c.args.kind.now c.args.slacks.now (c.requires.2 l.b-index (omega arith)) c.requires.0)
 
 pub returns : goal.returns
 returns c =
-    let l = c.loop-i in
+    let l = c.loop-b in
     let a = c.args in
-    let e : l.i ≡ length a.slacks.now = omega arith in
-    l.invariant.2 ∙ rw e (kinds-end a.n a.kind.now a.slacks.now)
+    let e : l.b-index ≡ length a.slacks.now = omega arith in
+    l.invariant ∙ rw e (kinds-end a.n a.kind.now a.slacks.now)

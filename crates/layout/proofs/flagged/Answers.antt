@@ -7,7 +7,7 @@ pub loop-b-init : goal.loop-b-init
 loop-b-init c = stored-none
 
 pub loop-b-preserved : goal.loop-b-preserved
-loop-b-preserved c = stored_next c.loop-b.invariant (omega arith) c.flag_kind-k.ensures
+loop-b-preserved c = stored_next c.loop-b.invariant (omega arith) c.flag_kind.ensures
 
 pub returns : goal.returns
 returns c = stored-all c.loop-b.invariant (omega arith)

@@ -14,8 +14,8 @@ pub loop-b-preserved : goal.loop-b-preserved
 unfolding count_to
 loop-b-preserved c =
     let l = c.loop-b in (
-      stored_next l.invariant.0 (omega arith) (rw (← l.invariant.1.so_far, ← c.has-h.ensures) c.number.ensures),
-      record { within = omega arith; so_far = rw (add-one, ← l.invariant.1.so_far, ← c.has-h.ensures) c.after-col.ensures.0 },
+      stored_next l.invariant.0 (omega arith) (rw (← l.invariant.1.so_far, ← c.is_at-h.ensures) c.number.ensures),
+      record { within = omega arith; so_far = rw (add-one, ← l.invariant.1.so_far, ← c.is_at-h.ensures) c.after-col.ensures.0 },
       omega (arith, c.after-col.ensures.1),
     )
 

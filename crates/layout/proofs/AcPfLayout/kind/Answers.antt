@@ -8,5 +8,5 @@ returns-then-va-eq-NONE c = rw (eq-eqb _ _ c.if-va-eq-NONE.true)
 pub returns-then-vm-eq-NONE : goal.returns-then-vm-eq-NONE
 returns-then-vm-eq-NONE c = simp (ne_eqb _ _ c.if-va-eq-NONE.false, eq-eqb _ _ c.if-vm-eq-NONE.true)
 
-pub returns : goal.returns
-returns c = simp (ne_eqb _ _ c.if-va-eq-NONE.false, ne_eqb _ _ c.if-vm-eq-NONE.false)
+pub returns-else-vm-eq-NONE : goal.returns-else-vm-eq-NONE
+returns-else-vm-eq-NONE c = simp (ne_eqb _ _ c.if-va-eq-NONE.false, ne_eqb _ _ c.if-vm-eq-NONE.false)

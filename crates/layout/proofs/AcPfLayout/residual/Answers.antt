@@ -13,13 +13,11 @@ loop-b-init c = search rules
 pub loop-b-preserved : goal.loop-b-preserved
 unfolding residual_to
 loop-b-preserved c =
-    let l = c.loop-b in (
-      l.invariant.0,
-      record {
-        within = omega arith;
-        so_far = rw (add-one, ← l.invariant.1.so_far, ← c.missing_power-x.ensures, ← c.put.ensures, ← c.missing_power-y.ensures) c.put-in-loop-b.ensures;
-      },
-    )
+    let l = c.loop-b in
+    record {
+      within = omega arith;
+      so_far = rw (add-one, ← l.invariant.so_far, ← c.missing_power-x.ensures, ← c.put.ensures, ← c.missing_power-y.ensures) c.put-in-loop-b.ensures;
+    }
 
 pub returns : goal.returns
-returns c = counted-all c.loop-b.invariant.1 (omega arith)
+returns c = counted-all c.loop-b.invariant (omega arith)
