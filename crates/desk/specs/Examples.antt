@@ -6,9 +6,7 @@ use Rattle.real.specs.Literals.{double}
 use Rattle.real.specs.Norm.{norm_of}
 use Rattle.mix.specs.Noise.{mix_of}
 use Rattle.trig.specs.Sine.{sin_cos_of}
-use Rattle.linsolve.specs.declared.Solution.{Solution}
-use Rattle.linsolve.specs.declared.Solution.TheVariants.{Solved, Singular}
-use Rattle.linsolve.specs.Linear.{solution, answer_of, space_of}
+use Rattle.linsolve.specs.Linear.{Answer, solved, singular, solution, answer_of, space_of}
 use Rattle.linsolve.proofs.Examples.{single, pair, sides}
 use Rattle.islands.specs.Islands.{labels_of}
 use Rattle.layout.specs.Layout.{none, layout_of}
@@ -26,7 +24,7 @@ pub data Value : Type 0 where
   numbers : List ℕ → Value
   reals : List Float → Value
   field : Real → Value
-  solve : Solution → Value
+  solve : Answer → Value
 
 pub record Row : Type 0 where
   pub given : Value
@@ -73,7 +71,7 @@ table w =
     ∷ row (reals ((sin_cos_of (double 0)).cos ∷ [])) (reals (double 1 ∷ []))
     ∷ row (reals ((sin_cos_of (double 1025)).sin ∷ [])) (reals (nan ∷ []))
     -- rows (0,2),(4,0) with right side (6,8) give (2,3); a 1 by 1 zero is singular
-    ∷ row (solve (answer_of (solution 2 pair))) (solve Solved)
+    ∷ row (solve (answer_of (solution 2 pair))) (solve solved)
     ∷ row (reals (sides 2 (space_of (solution 2 pair)))) (reals (double 2 ∷ double 3 ∷ []))
-    ∷ row (solve (answer_of (solution 1 single))) (solve (Singular 0))
+    ∷ row (solve (answer_of (solution 1 single))) (solve (singular 0))
     ∷ []

@@ -6,8 +6,7 @@ use mathlib.Core.List.{List, [], ◌∷◌}
 use lib.ListN.{replicate, set, take, drop}
 use lib.Ieee.{Float, of_int, of_bits, add, sub, mul, div, lt}
 use Rattle.real.specs.Literals.{double}
-use Rattle.linsolve.specs.declared.Solution.TheVariants.{Solved, Singular}
-use Rattle.linsolve.specs.Linear.{cleared, clear_rows, added, answer_of, space_of, solution}
+use Rattle.linsolve.specs.Linear.{cleared, clear_rows, added, solved, singular, answer_of, space_of, solution}
 
 -- the first n right sides
 abbrev pub sides : ℕ → List Float → List Float
@@ -23,7 +22,7 @@ unfoldable pub pair : List Float
 unfolding of_int clear_rows
 pair = set (set (added 1 0 (double 4) (added 0 1 (double 2) (cleared 2 (replicate 4160 (double 1))))) 4096 (double 6)) 4097 (double 8)
 
-pub pair-solved : answer_of (solution 2 pair) ≡ Solved
+pub pair-solved : answer_of (solution 2 pair) ≡ solved
 unfolding solution pair of_int of_bits add sub mul div lt
 pair-solved = refl
 
@@ -31,6 +30,6 @@ pub pair-gives : sides 2 (space_of (solution 2 pair)) ≡ double 2 ∷ double 3 
 unfolding solution pair of_int of_bits add sub mul div lt
 pair-gives = refl
 
-pub zero-singular : answer_of (solution 1 single) ≡ Singular 0
+pub zero-singular : answer_of (solution 1 single) ≡ singular 0
 unfolding solution single of_int of_bits add sub mul div lt
 zero-singular = refl

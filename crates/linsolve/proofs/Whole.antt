@@ -15,9 +15,8 @@ use lib.Ieee.{Float, lt}
 use Rattle.real.specs.Tests.{cond_either}
 use Rattle.real.specs.Literals.{nought}
 use Rattle.real.specs.Real.{absolute}
-use Rattle.linsolve.specs.declared.Solution.{Solution}
-use Rattle.linsolve.specs.declared.Solution.TheVariants.{Solved, Singular}
-use Rattle.linsolve.specs.Linear.{at, pivot_from, swapped, swap_rows, less, sub_row, whole_row, after_pivot, sub_lower, Outcome, outcome, answer_of, space_of, reduce, less_known, substitute, finish, worked_out, solution}
+use Rattle.std.specs.Prelude.{Ok, Err}
+use Rattle.linsolve.specs.Linear.{at, pivot_from, swapped, swap_rows, less, sub_row, whole_row, after_pivot, sub_lower, Answer, Outcome, outcome, answer_of, space_of, reduce, less_known, substitute, finish, worked_out, solution}
 use Rattle.linsolve.specs.Linear.Laws.{pivot-below, solution-ours}
 
 -- ---- Where the two workspaces agree
@@ -139,7 +138,7 @@ module _ (dim : ℕ) (fits : dim ≤ 64) where
 
   -- the same answer, and workspaces alike but under the diagonal
   data Ends : Outcome → Outcome → Type 0 where
-    ends : {s : Solution} {u v : List Float} → Alike dim (dim * 64) u v → Ends (outcome s u) (outcome s v)
+    ends : {s : Answer} {u v : List Float} → Alike dim (dim * 64) u v → Ends (outcome s u) (outcome s v)
 
   cond-ends : (t : Bool) {o q x y : Outcome} → Ends o q → (t ≡ false → Ends x y) → Ends (cond t o x) (cond t q y)
   cond-ends true a b = a
@@ -176,8 +175,8 @@ module _ (dim : ℕ) (fits : dim ≤ 64) where
   finish-alike : {o q : Outcome} → Ends o q → (answer_of (finish dim o) ≡ answer_of (finish dim q))
       × ((r : ℕ) → at (space_of (finish dim o)) (4096 + r) ≡ at (space_of (finish dim q)) (4096 + r))
   unfolding finish
-  finish-alike (ends {s = Solved} a) = (refl, λ r. (substitute-alike dim a (omega arith)).same (4096 + r) (side-live _ r))
-  finish-alike (ends {s = Singular c} a) = (refl, λ r. a.same (4096 + r) (side-live _ r))
+  finish-alike (ends {s = Ok x} a) = (refl, λ r. (substitute-alike dim a (omega arith)).same (4096 + r) (side-live _ r))
+  finish-alike (ends {s = Err s} a) = (refl, λ r. a.same (4096 + r) (side-live _ r))
 
 pub ours-is-the-rules : (dim : ℕ) (w : List Float) → dim ≤ 64 → worked_out after_pivot dim w ≡ solution dim w
 unfolding worked_out

@@ -3,13 +3,12 @@
 -- the second where they begin, and what comes after them stands in the clause of zero. Linear/Laws.antt says what follows.
 pub mod Laws
 pub mod Space
-use Rattle.std.specs.Prelude.{ℕ, zero, suc, ◌+◌, ◌-◌, ◌*◌, cond, List, eqb, get_or, set, Float}
+use Rattle.std.specs.Prelude.{ℕ, zero, suc, ◌+◌, ◌-◌, ◌*◌, cond, List, eqb, get_or, set, Float, Result, Ok, Err}
 use Rattle.std.specs.Float.{nan, binary64}
 use Rattle.std.specs.Float.Ieee.{add, sub, mul, div, lt}
 use Rattle.real.specs.Literals.{nought}
 use Rattle.real.specs.Real.{absolute}
-use Rattle.linsolve.specs.declared.Solution.{Solution}
-use Rattle.linsolve.specs.declared.Solution.TheVariants.{Solved, Singular}
+use Rattle.linsolve.specs.declared.Singular.{Singular}
 
 -- the double at a place of the workspace
 abbrev pub at : List Float → ℕ → Float
@@ -82,11 +81,21 @@ sub_lower first (suc n) r p dim w =
     let f = div binary64 (at w (r * 64 + p)) (at w (p * 64 + p)) in
     sub_lower first n (r + 1) p dim (sub_row (dim - first p) (first p) p r f w)
 
--- what the solve answers, and the workspace that it leaves
-pub data Outcome : Type 0 where
-  outcome : Solution → List Float → Outcome
+-- what the solve answers: solved, or the column of which 01 says "none means singular"
+abbrev pub Answer : Type 0
+Answer = Result (Unit {0}) Singular
 
-abbrev pub answer_of : Outcome → Solution
+abbrev pub solved : Answer
+solved = Ok tt
+
+abbrev pub singular : ℕ → Answer
+singular c = Err (record { column = c })
+
+-- and the workspace that it leaves
+pub data Outcome : Type 0 where
+  outcome : Answer → List Float → Outcome
+
+abbrev pub answer_of : Outcome → Answer
 answer_of (outcome s w) = s
 
 abbrev pub space_of : Outcome → List Float
@@ -95,11 +104,11 @@ space_of (outcome s w) = w
 -- "In each column": the n columns from col on. The search begins "from 0.0", and from dim, which is no row: "none means singular"
 unfoldable pub reduce : (ℕ → ℕ) → ℕ → ℕ → ℕ → List Float → Outcome
 unfolding pivot_from swap_rows sub_lower
-reduce first zero col dim w = outcome Solved w
+reduce first zero col dim w = outcome solved w
 reduce first (suc n) col dim w =
     let p = pivot_from (dim - col) col col nought dim w in
     let rest = reduce first n (col + 1) dim (sub_lower first (dim - (col + 1)) (col + 1) col dim (swap_rows dim 0 col p w)) in
-    cond (eqb p dim) (outcome (Singular col) w) rest
+    cond (eqb p dim) (outcome (singular col) w) rest
 
 -- "subtracts products in rising column order": from acc, those of row r and the unknowns, n columns from c on
 unfoldable pub less_known : ℕ → ℕ → ℕ → Float → List Float → Float
@@ -117,8 +126,8 @@ substitute (suc r) dim w =
 -- what follows the reduction: a singular matrix is left as it stands
 unfoldable pub finish : ℕ → Outcome → Outcome
 unfolding substitute
-finish dim (outcome Solved w) = outcome Solved (substitute dim dim w)
-finish dim (outcome (Singular c) w) = outcome (Singular c) w
+finish dim (outcome (Ok x) w) = outcome (Ok x) (substitute dim dim w)
+finish dim (outcome (Err s) w) = outcome (Err s) w
 
 -- reduction and substitution
 unfoldable pub worked_out : (ℕ → ℕ) → ℕ → List Float → Outcome

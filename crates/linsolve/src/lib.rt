@@ -4,25 +4,19 @@
 
 ghost use Rattle.std.specs.Prelude.{◌≡◌, ◌+◌, ◌-◌, ◌*◌, ◌≤◌, ◌<◌, length};
 ghost use Rattle.real.specs.Literals.{nought};
-ghost use Rattle.linsolve.specs.Linear.{at, zeroed, cleared, added, pivot_from, swapped, swap_rows, sub_row, after_pivot, sub_lower, outcome, reduce, less_known, substitute, solution};
+ghost use Rattle.linsolve.specs.Linear.{at, zeroed, cleared, added, pivot_from, swap_rows, sub_row, after_pivot, sub_lower, outcome, reduce, less_known, substitute, solution};
 
-#[derive(Clone, Copy)]
-pub enum Solution {
-    Solved,
-    // The column without a pivot.
-    Singular(usize),
+// The solve failed: this is the first column without a pivot.
+#[derive(Clone, Copy, Debug, PartialEq, Eq)]
+pub struct Singular {
+    pub column: usize,
 }
 
 fn clear_from(w: &mut [f64], start: usize, count: usize)
     requires { start + count ≤ length w.old }
     ensures { w.new ≡ zeroed count start w.old }
 {
-    let end = start + count;
-    let mut i = start;
-    while i < end {
-        w[i] = 0.0;
-        i += 1;
-    }
+    w[start..start + count].fill(0.0);
 }
 
 // The zero matrix of dim unknowns, with its right sides.
@@ -30,10 +24,8 @@ pub fn clear(w: &mut [f64], dim: usize)
     requires { (4160 ≤ length w.old) × (dim ≤ 64) }
     ensures { w.new ≡ cleared dim w.old }
 {
-    let mut r = 0;
-    while r < dim {
+    for r in 0..dim {
         clear_from(w, r * 64, dim);
-        r += 1;
     }
     clear_from(w, 4096, dim);
 }
@@ -53,26 +45,15 @@ fn pivot_row(w: &[f64], dim: usize, col: usize) -> usize
 {
     let mut best = 0.0;
     let mut p = dim;
-    let mut r = col;
-    while r < dim {
+    for r in col..dim {
         let i = r * 64 + col;
         let x = real::abs(w[i]);
         if x > best {
             best = x;
             p = r;
         }
-        r += 1;
     }
     p
-}
-
-fn swap(w: &mut [f64], i: usize, j: usize)
-    requires { (i < length w.old) × (j < length w.old) }
-    ensures { w.new ≡ swapped i j w.old }
-{
-    let x = w[i];
-    w[i] = w[j];
-    w[j] = x;
 }
 
 fn swap_rows(w: &mut [f64], dim: usize, a: usize, b: usize)
@@ -82,12 +63,10 @@ fn swap_rows(w: &mut [f64], dim: usize, a: usize, b: usize)
     if a == b {
         return;
     }
-    let mut c = 0;
-    while c < dim {
-        swap(w, a * 64 + c, b * 64 + c);
-        c += 1;
+    for c in 0..dim {
+        w.swap(a * 64 + c, b * 64 + c);
     }
-    swap(w, 4096 + a, 4096 + b);
+    w.swap(4096 + a, 4096 + b);
 }
 
 // Subtracts f times row p from row r, after column p: that column and those further left are read no more.
@@ -95,12 +74,10 @@ fn sub_row(w: &mut [f64], dim: usize, p: usize, r: usize, f: f64)
     requires { (4160 ≤ length w.old) × (dim ≤ 64) × (p < dim) × (r < dim) }
     ensures { w.new ≡ sub_row (dim - (p + 1)) (p + 1) p r f w.old }
 {
-    let mut c = p + 1;
-    while c < dim {
+    for c in p + 1..dim {
         let i = r * 64 + c;
         let j = p * 64 + c;
         w[i] = w[i] - f * w[j];
-        c += 1;
     }
     let side = 4096 + r;
     let known = 4096 + p;
@@ -111,31 +88,27 @@ fn sub_lower(w: &mut [f64], dim: usize, p: usize)
     requires { (4160 ≤ length w.old) × (dim ≤ 64) × (p < dim) }
     ensures { w.new ≡ sub_lower after_pivot (dim - (p + 1)) (p + 1) p dim w.old }
 {
-    let mut r = p + 1;
-    while r < dim {
+    for r in p + 1..dim {
         let i = r * 64 + p;
         let j = p * 64 + p;
         let f = w[i] / w[j];
         sub_row(w, dim, p, r, f);
-        r += 1;
     }
 }
 
-fn reduce_rows(w: &mut [f64], dim: usize) -> Solution
+fn reduce_rows(w: &mut [f64], dim: usize) -> Result<(), Singular>
     requires { (4160 ≤ length w.old) × (dim ≤ 64) }
     ensures { outcome result w.new ≡ reduce after_pivot dim 0 dim w.old }
 {
-    let mut col = 0;
-    while col < dim {
+    for col in 0..dim {
         let p = pivot_row(w, dim, col);
         if p == dim {
-            return Solution::Singular(col);
+            return Err(Singular { column: col });
         }
         swap_rows(w, dim, col, p);
         sub_lower(w, dim, col);
-        col += 1;
     }
-    Solution::Solved
+    Ok(())
 }
 
 // The right side of row r less the products of its entries and the unknowns after it, in rising column order.
@@ -145,13 +118,10 @@ fn less_known(w: &[f64], dim: usize, r: usize) -> f64
 {
     let side = 4096 + r;
     let mut acc = w[side];
-    let mut left = dim - (r + 1);
-    while 0 < left {
-        let c = dim - left;
+    for c in r + 1..dim {
         let i = r * 64 + c;
         let j = 4096 + c;
         acc = acc - w[i] * w[j];
-        left -= 1;
     }
     acc
 }
@@ -160,27 +130,19 @@ fn substitute_back(w: &mut [f64], dim: usize)
     requires { (4160 ≤ length w.old) × (dim ≤ 64) }
     ensures { w.new ≡ substitute dim dim w.old }
 {
-    let mut left = dim;
-    while 0 < left {
-        let r = left - 1;
+    for r in (0..dim).rev() {
         let x = less_known(w, dim, r);
         let i = 4096 + r;
         let j = r * 64 + r;
         w[i] = x / w[j];
-        left = r;
     }
 }
 
-pub fn solve(w: &mut [f64], dim: usize) -> Solution
+pub fn solve(w: &mut [f64], dim: usize) -> Result<(), Singular>
     requires { (4160 ≤ length w.old) × (dim ≤ 64) }
     ensures { outcome result w.new ≡ solution dim w.old }
 {
-    let found = reduce_rows(w, dim);
-    match found {
-        Solution::Solved => {
-            substitute_back(w, dim);
-            Solution::Solved
-        }
-        Solution::Singular(c) => Solution::Singular(c),
-    }
+    reduce_rows(w, dim)?;
+    substitute_back(w, dim);
+    Ok(())
 }

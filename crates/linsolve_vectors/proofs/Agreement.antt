@@ -5,14 +5,13 @@ use mathlib.Core.List.{List}
 use Prim.Native.Nat.{ℕ, ◌*◌}
 use lib.Ieee.{Float, nan}
 use Rattle.real.specs.Each.Laws.{is-each}
-use Rattle.linsolve.specs.declared.Solution.{Solution}
-use Rattle.linsolve.specs.Linear.{outcome, solution}
+use Rattle.linsolve.specs.Linear.{Answer, outcome, solution}
 use Rattle.linsolve_vectors.specs.Told.{size_of, Holds, number_of, Agrees}
 
 one-space : {w v : List Float} {s : List ℕ} {from dim : ℕ} → Holds w s from dim → Holds v s from dim → w ≡ v
 one-space {w} {v} a b = is-each 4224 _ nan w a.size a.each ∙ sym (is-each 4224 _ nan v b.size b.each)
 
-module _ (s : List ℕ) (dim answer : ℕ) (w v : List Float) (found : Solution) (began : Holds w s 0 dim) (is : outcome found v ≡ solution dim w) where
+module _ (s : List ℕ) (dim answer : ℕ) (w v : List Float) (found : Answer) (began : Holds w s 0 dim) (is : outcome found v ≡ solution dim w) where
   pub agreement : number_of found ≡ answer → Holds v s (size_of dim * 8) dim → Agrees s dim answer
   agreement e left =
       record {

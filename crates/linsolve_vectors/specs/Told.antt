@@ -1,12 +1,10 @@
 -- What the input says of a system: its right sides and then its entries row by row, eight bytes each. Every place of the workspace
 -- that is none of them holds a mark of its own.
-use Rattle.std.specs.Prelude.{ℕ, ◌+◌, ◌*◌, ◌<◌, ◌/◌, ◌%◌, ◌≡◌, cond, List, eqb, ltb, length, Float}
+use Rattle.std.specs.Prelude.{ℕ, ◌+◌, ◌*◌, ◌<◌, ◌/◌, ◌%◌, ◌≡◌, cond, List, eqb, ltb, length, Float, Ok, Err}
 use Rattle.std.specs.Float.{binary64}
 use Rattle.std.specs.Float.Ieee.{of_bits}
 use Rattle.vectors.specs.Words.{double_at}
-use Rattle.linsolve.specs.declared.Solution.{Solution}
-use Rattle.linsolve.specs.declared.Solution.TheVariants.{Solved, Singular}
-use Rattle.linsolve.specs.Linear.{at, answer_of, space_of, solution}
+use Rattle.linsolve.specs.Linear.{Answer, at, answer_of, space_of, solution}
 
 -- how many places a system has
 abbrev pub size_of : ℕ → ℕ
@@ -33,9 +31,9 @@ pub record Holds (w : List Float) (s : List ℕ) (from dim : ℕ) : Type 0 where
   pub each : (i : ℕ) → i < 4224 → at w i ≡ told_of s from dim i
 
 -- 64 stands for solved, a smaller number for the column without a pivot
-abbrev pub number_of : Solution → ℕ
-number_of Solved = 64
-number_of (Singular c) = c
+abbrev pub number_of : Answer → ℕ
+number_of (Ok x) = 64
+number_of (Err s) = s.column
 
 -- the solve of the workspace that is told first gives the answer, and leaves the workspace that is told next
 pub record Agrees (s : List ℕ) (dim answer : ℕ) : Type 0 where

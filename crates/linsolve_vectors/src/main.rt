@@ -6,6 +6,7 @@ ghost use Rattle.std.specs.Prelude.{◌≡◌, ◌+◌, ◌*◌, ◌≤◌, ◌<
 ghost use Rattle.vectors.specs.Words.{word_of, Tells, Found};
 ghost use Rattle.linsolve_vectors.specs.Told.{size_of, slot_of, mark_of, told_of, Holds, number_of, Agrees};
 
+use linsolve::Singular;
 use vectors::STDIN_FILENO;
 
 fn size(dim: usize) -> usize
@@ -76,12 +77,12 @@ fn holds(w: &[f64], s: &[u8], from: usize, dim: usize) -> bool
     true
 }
 
-fn number(found: linsolve::Solution) -> u64
+fn number(found: Result<(), Singular>) -> u64
     ensures { result ≡ number_of found }
 {
     match found {
-        linsolve::Solution::Solved => 64,
-        linsolve::Solution::Singular(c) => c as u64,
+        Ok(()) => 64,
+        Err(singular) => singular.column as u64,
     }
 }
 

@@ -3,3 +3,4 @@ pub mod Network
 pub mod Missing
 pub mod Checks
 pub mod BranchTable
+pub mod Columns

@@ -1,15 +1,12 @@
 -- 02, Ask 1: which row names a bus that is not in the case.
 pub mod Laws
-use Rattle.std.specs.Prelude.{ℕ, ◌≤◌, ◌<◌, ◌≡◌, Bool, ◌||◌, cond, List, ◌⊎◌, leb, length, get_or}
+use Rattle.std.specs.Prelude.{ℕ, ◌≤◌, ◌<◌, ◌≡◌, Bool, ◌||◌, cond, List, ◌⊎◌, leb, length, get_or, Option, Some, None}
 use Rattle.real.specs.First.{first_below}
-use Rattle.real.specs.declared.First.{First}
-use Rattle.real.specs.declared.First.TheVariants as First
 use Rattle.network.specs.Below.{Below}
 use Rattle.network.specs.Network.{Network, bus_count}
 use Rattle.network.specs.declared.Naming.{Naming}
 use Rattle.network.specs.declared.Naming.TheVariants.{Slack, Generator, Branch, Triplet}
 use Rattle.network.specs.declared.MissingBus.{MissingBus}
-use Rattle.network.specs.declared.MissingBus.TheVariants.{At, Nowhere}
 
 -- ---- as tests
 
@@ -26,28 +23,28 @@ abbrev pub first_field : ℕ → ℕ → ℕ
 first_field n bus = cond (leb n bus) 0 1
 
 -- a row that was found, with its field
-abbrev pub row_in : Naming → (ℕ → ℕ) → First → MissingBus
-row_in table field (First.At i) = At table i (field i)
-row_in table field First.Nowhere = Nowhere
+abbrev pub row_in : Naming → (ℕ → ℕ) → Option ℕ → Option MissingBus
+row_in table field (Some i) = Some (record { table = table; row = i; field = field i })
+row_in table field None = None
 
 -- "The lowest row is told": of a table whose rows name one bus, and of one whose rows name two
-unfoldable pub in_column : ℕ → Naming → List ℕ → MissingBus
+unfoldable pub in_column : ℕ → Naming → List ℕ → Option MissingBus
 in_column n table l = row_in table (λ i. 0) (first_below (length l) (bus_missing n l))
 
-unfoldable pub in_ends : ℕ → Naming → List ℕ → List ℕ → MissingBus
+unfoldable pub in_ends : ℕ → Naming → List ℕ → List ℕ → Option MissingBus
 in_ends n table a b = row_in table (λ i. first_field n (get_or a i 0)) (first_below (length a) (end_missing n a b))
 
 -- the one found, or else the next
-abbrev pub or_next : MissingBus → MissingBus → MissingBus
-or_next (At table row field) next = At table row field
-or_next Nowhere next = next
+abbrev pub or_next : Option MissingBus → Option MissingBus → Option MissingBus
+or_next (Some at) next = Some at
+or_next None next = next
 
 -- slack rows, generators, branches, triplets, "in that order"
-abbrev pub missing_by : ℕ → List ℕ → List ℕ → List ℕ → List ℕ → List ℕ → List ℕ → MissingBus
+abbrev pub missing_by : ℕ → List ℕ → List ℕ → List ℕ → List ℕ → List ℕ → List ℕ → Option MissingBus
 missing_by n slacks generators from to row col =
     or_next (in_column n Slack slacks) (or_next (in_column n Generator generators) (or_next (in_ends n Branch from to) (in_ends n Triplet row col)))
 
-unfoldable pub missing_in : Network → MissingBus
+unfoldable pub missing_in : Network → Option MissingBus
 missing_in t = missing_by (bus_count t) t.slacks.bus t.generators.bus t.branches.from t.branches.to t.triplets.row t.triplets.col
 
 -- ---- as facts
@@ -80,9 +77,12 @@ abbrev pub TripletsNamed : Network → Type 0
 TripletsNamed t = BranchesNamed t × Below (bus_count t) t.triplets.row × Below (bus_count t) t.triplets.col
 
 -- what an answer means: its row is the lowest at fault of its table, and no table before it has one
-abbrev pub Means : Network → MissingBus → Type 0
-Means t (At Slack i f) = LowestRow (bus_count t) t.slacks.bus i f
-Means t (At Generator i f) = SlacksNamed t × LowestRow (bus_count t) t.generators.bus i f
-Means t (At Branch i f) = GeneratorsNamed t × LowestEnd (bus_count t) t.branches.from t.branches.to i f
-Means t (At Triplet i f) = BranchesNamed t × LowestEnd (bus_count t) t.triplets.row t.triplets.col i f
-Means t Nowhere = TripletsNamed t
+abbrev pub MeansIn : Network → Naming → ℕ → ℕ → Type 0
+MeansIn t Slack i f = LowestRow (bus_count t) t.slacks.bus i f
+MeansIn t Generator i f = SlacksNamed t × LowestRow (bus_count t) t.generators.bus i f
+MeansIn t Branch i f = GeneratorsNamed t × LowestEnd (bus_count t) t.branches.from t.branches.to i f
+MeansIn t Triplet i f = BranchesNamed t × LowestEnd (bus_count t) t.triplets.row t.triplets.col i f
+
+abbrev pub Means : Network → Option MissingBus → Type 0
+Means t (Some at) = MeansIn t at.table at.row at.field
+Means t None = TripletsNamed t

@@ -1,18 +1,172 @@
-// The tables of a case: how many rows each has, and what 01 asks of them before anything is worked out.
+// The tables of a case: their columns, how many rows each has, and what 01 asks of them before anything is worked out.
 #![tactic(auto)]
 
-ghost use Rattle.std.specs.Prelude.{◌≡◌, length};
-ghost use Rattle.real.specs.First.{first_below};
-ghost use Rattle.network.specs.Network.{buses_of, slacks_of, generators_of, branches_of, triplets_of, network_of, fits_of};
-ghost use Rattle.network.specs.Checks.{same3, same7, buses_counted, slacks_counted, generators_counted, branches_counted, triplets_counted};
-ghost use Rattle.network.specs.Checks.{counted};
-ghost use Rattle.network.specs.BranchTable.{values_of, values_counted};
-ghost use Rattle.network.specs.Missing.{bus_missing, end_missing, in_column, first_field, in_ends, or_next, missing_by};
+ghost use Rattle.std.specs.Prelude.{◌≡◌, ◌||◌, leb, length, zip};
+ghost use Rattle.std.specs.List.{position};
+ghost use Rattle.network.specs.Network.{fits_of, buses_room, slacks_room, generators_room, branches_room, triplets_room, room_of, RoomFor, first_rows};
+ghost use Rattle.network.specs.Network.{RoomBuses, RoomSlacks, RoomGenerators, RoomBranches, RoomTriplets, first_buses, first_slacks, first_generators, first_branches, first_triplets};
+ghost use Rattle.network.specs.Columns.{buses_in, slacks_in, generators_in, branches_in, triplets_in, network_in, values_in, branch_table_in, branch_network_in};
+ghost use Rattle.network.specs.Columns.{buses_lent, slacks_lent, generators_lent, branches_lent, triplets_lent, network_lent, values_lent, branch_table_lent, branch_network_lent};
+ghost use Rattle.network.specs.Checks.{same3, same7, buses_counted, slacks_counted, generators_counted, branches_counted, triplets_counted, counted};
+ghost use Rattle.network.specs.BranchTable.{values_counted, values_room, branch_table_room, branch_room_of, RoomValues, RoomBranchTable, RoomForBranches, first_values, first_branch_table, first_branch_rows, with_triplets};
+ghost use Rattle.network.specs.Missing.{in_column, first_field, in_ends, missing_in};
 
-use real::First;
+// ---- the columns of a case, lent for reading
+
+// `B kind vm_set pd qd pg qg vm_case va_case`: the columns of the buses.
+#[derive(Clone, Copy)]
+pub struct BusColumns<'a> {
+    pub kind: &'a [u8],
+    pub vm_set: &'a [f64],
+    pub pd: &'a [f64],
+    pub qd: &'a [f64],
+    pub pg: &'a [f64],
+    pub qg: &'a [f64],
+    pub vm_case: &'a [f64],
+    pub va_case: &'a [f64],
+}
+
+// `R bus angle`: those of the slack rows.
+#[derive(Clone, Copy)]
+pub struct SlackColumns<'a> {
+    pub bus: &'a [usize],
+    pub angle: &'a [f64],
+}
+
+// `G bus qmin qmax`: those of the generators.
+#[derive(Clone, Copy)]
+pub struct GeneratorColumns<'a> {
+    pub bus: &'a [usize],
+    pub qmin: &'a [f64],
+    pub qmax: &'a [f64],
+}
+
+// `L from to`: the ends of the branches.
+#[derive(Clone, Copy)]
+pub struct BranchColumns<'a> {
+    pub from: &'a [usize],
+    pub to: &'a [usize],
+}
+
+// `Y row col re im`: the entries of the admittance matrix.
+#[derive(Clone, Copy)]
+pub struct TripletColumns<'a> {
+    pub row: &'a [usize],
+    pub col: &'a [usize],
+    pub re: &'a [f64],
+    pub im: &'a [f64],
+}
+
+// `K .. g b g_fr b_fr g_to b_to tap shift sw`: the numbers of the branches beside their ends.
+#[derive(Clone, Copy)]
+pub struct ValueColumns<'a> {
+    pub g: &'a [f64],
+    pub b: &'a [f64],
+    pub g_fr: &'a [f64],
+    pub b_fr: &'a [f64],
+    pub g_to: &'a [f64],
+    pub b_to: &'a [f64],
+    pub tap: &'a [f64],
+    pub shift: &'a [f64],
+    pub sw: &'a [f64],
+}
+
+// The tables of a case of the first edition.
+#[derive(Clone, Copy)]
+pub struct Tables<'a> {
+    pub buses: BusColumns<'a>,
+    pub slacks: SlackColumns<'a>,
+    pub generators: GeneratorColumns<'a>,
+    pub branches: BranchColumns<'a>,
+    pub triplets: TripletColumns<'a>,
+}
+
+// Those of the second: the branches have numbers, and there are no triplets.
+#[derive(Clone, Copy)]
+pub struct BranchTables<'a> {
+    pub buses: BusColumns<'a>,
+    pub slacks: SlackColumns<'a>,
+    pub generators: GeneratorColumns<'a>,
+    pub ends: BranchColumns<'a>,
+    pub values: ValueColumns<'a>,
+}
+
+// ---- the same, lent for writing
+
+#[derive(Drop)]
+pub struct BusColumnsMut<'a> {
+    pub kind: &'a mut [u8],
+    pub vm_set: &'a mut [f64],
+    pub pd: &'a mut [f64],
+    pub qd: &'a mut [f64],
+    pub pg: &'a mut [f64],
+    pub qg: &'a mut [f64],
+    pub vm_case: &'a mut [f64],
+    pub va_case: &'a mut [f64],
+}
+
+#[derive(Drop)]
+pub struct SlackColumnsMut<'a> {
+    pub bus: &'a mut [usize],
+    pub angle: &'a mut [f64],
+}
+
+#[derive(Drop)]
+pub struct GeneratorColumnsMut<'a> {
+    pub bus: &'a mut [usize],
+    pub qmin: &'a mut [f64],
+    pub qmax: &'a mut [f64],
+}
+
+#[derive(Drop)]
+pub struct BranchColumnsMut<'a> {
+    pub from: &'a mut [usize],
+    pub to: &'a mut [usize],
+}
+
+#[derive(Drop)]
+pub struct TripletColumnsMut<'a> {
+    pub row: &'a mut [usize],
+    pub col: &'a mut [usize],
+    pub re: &'a mut [f64],
+    pub im: &'a mut [f64],
+}
+
+#[derive(Drop)]
+pub struct ValueColumnsMut<'a> {
+    pub g: &'a mut [f64],
+    pub b: &'a mut [f64],
+    pub g_fr: &'a mut [f64],
+    pub b_fr: &'a mut [f64],
+    pub g_to: &'a mut [f64],
+    pub b_to: &'a mut [f64],
+    pub tap: &'a mut [f64],
+    pub shift: &'a mut [f64],
+    pub sw: &'a mut [f64],
+}
+
+#[derive(Drop)]
+pub struct TablesMut<'a> {
+    pub buses: BusColumnsMut<'a>,
+    pub slacks: SlackColumnsMut<'a>,
+    pub generators: GeneratorColumnsMut<'a>,
+    pub branches: BranchColumnsMut<'a>,
+    pub triplets: TripletColumnsMut<'a>,
+}
+
+#[derive(Drop)]
+pub struct BranchTablesMut<'a> {
+    pub buses: BusColumnsMut<'a>,
+    pub slacks: SlackColumnsMut<'a>,
+    pub generators: GeneratorColumnsMut<'a>,
+    pub ends: BranchColumnsMut<'a>,
+    pub values: ValueColumnsMut<'a>,
+}
+
+// ---- how many rows
 
 // A number of rows for each table.
-#[derive(Clone, Copy)]
+#[derive(Clone, Copy, Debug, PartialEq, Eq)]
 pub struct Rows {
     pub buses: usize,
     pub slacks: usize,
@@ -22,153 +176,358 @@ pub struct Rows {
 }
 
 // Whether the rows of each table are at most those that there is room for.
+#[tactic(auto, unfolding(real::specs::Tests::both))]
 pub fn fits(r: Rows, room: Rows) -> bool
     ensures { result ≡ fits_of r room }
 {
-    let a = real::and(r.branches <= room.branches, r.triplets <= room.triplets);
-    let b = real::and(r.generators <= room.generators, a);
-    real::and(r.buses <= room.buses, real::and(r.slacks <= room.slacks, b))
+    (r.buses <= room.buses)
+        & ((r.slacks <= room.slacks)
+            & ((r.generators <= room.generators)
+                & ((r.branches <= room.branches) & (r.triplets <= room.triplets))))
 }
+
+// The fewest places that a column of each table has, and the first rows of a table.
 
 // ---- refusal 7: a count over its size, or columns of one table that differ in length
 
+#[tactic(auto, unfolding(real::specs::Tests::both))]
 fn equal3(n: usize, a: usize, b: usize, c: usize) -> bool
     ensures { result ≡ same3 n a b c }
 {
-    real::and(a == n, real::and(b == n, c == n))
+    (a == n) & ((b == n) & (c == n))
 }
 
+#[tactic(auto, unfolding(real::specs::Tests::both))]
 fn equal7(n: usize, a: usize, b: usize, c: usize, d: usize, e: usize, f: usize, g: usize) -> bool
     ensures { result ≡ same7 n a b c d e f g }
 {
-    real::and(equal3(n, a, b, c), real::and(d == n, equal3(n, e, f, g)))
+    equal3(n, a, b, c) & ((d == n) & equal3(n, e, f, g))
 }
 
-fn buses_counted(
-    kind: &[u8],
-    vm_set: &[f64],
-    pd: &[f64],
-    qd: &[f64],
-    pg: &[f64],
-    qg: &[f64],
-    vm_case: &[f64],
-    va_case: &[f64],
-) -> bool
-    ensures { result ≡ buses_counted
-        (buses_of kind.now vm_set.now pd.now qd.now pg.now qg.now
-        vm_case.now va_case.now) }
-{
-    let n = kind.len();
-    let same = equal7(
-        n,
-        vm_set.len(),
-        pd.len(),
-        qd.len(),
-        pg.len(),
-        qg.len(),
-        vm_case.len(),
-        va_case.len(),
-    );
-    real::and(n <= 32, same)
+impl<'a> BusColumns<'a> {
+    #[tactic(auto, unfolding(real::specs::Tests::both))]
+    fn counted(self) -> bool
+        ensures { result ≡ buses_counted (buses_in self.entry) }
+    {
+        let n = self.kind.len();
+        let same = equal7(
+            n,
+            self.vm_set.len(),
+            self.pd.len(),
+            self.qd.len(),
+            self.pg.len(),
+            self.qg.len(),
+            self.vm_case.len(),
+            self.va_case.len(),
+        );
+        (n <= 32) & same
+    }
+
+    // The first n rows.
+    pub fn first(self, n: usize) -> BusColumns<'a>
+        requires { RoomBuses n (buses_in self) }
+        ensures { buses_in result ≡ first_buses n (buses_in self.entry) }
+    {
+        BusColumns {
+            kind: &self.kind[..n],
+            vm_set: &self.vm_set[..n],
+            pd: &self.pd[..n],
+            qd: &self.qd[..n],
+            pg: &self.pg[..n],
+            qg: &self.qg[..n],
+            vm_case: &self.vm_case[..n],
+            va_case: &self.va_case[..n],
+        }
+    }
 }
 
-fn slacks_counted(slacks: &[usize], va_slacks: &[f64]) -> bool
-    ensures { result ≡ slacks_counted (slacks_of slacks.now va_slacks.now) }
-{
-    real::and(slacks.len() <= 32, va_slacks.len() == slacks.len())
+impl BusColumnsMut<'_> {
+    // How many rows there is room for.
+    pub fn room(&self) -> usize
+        ensures { result ≡ buses_room (buses_lent self.now) }
+    {
+        self.kind
+            .len()
+            .min(self.vm_set.len())
+            .min(self.pd.len().min(self.qd.len()))
+            .min(
+                self.pg
+                    .len()
+                    .min(self.qg.len())
+                    .min(self.vm_case.len().min(self.va_case.len())),
+            )
+    }
 }
 
-fn generators_counted(gen_bus: &[usize], qmin: &[f64], qmax: &[f64]) -> bool
-    ensures { result ≡ generators_counted (generators_of gen_bus.now qmin.now qmax.now) }
-{
-    let n = gen_bus.len();
-    real::and(n <= 32, real::and(qmin.len() == n, qmax.len() == n))
+impl<'a> SlackColumns<'a> {
+    #[tactic(auto, unfolding(real::specs::Tests::both))]
+    fn counted(self) -> bool
+        ensures { result ≡ slacks_counted (slacks_in self.entry) }
+    {
+        (self.bus.len() <= 32) & (self.angle.len() == self.bus.len())
+    }
+
+    // The first n rows.
+    pub fn first(self, n: usize) -> SlackColumns<'a>
+        requires { RoomSlacks n (slacks_in self) }
+        ensures { slacks_in result ≡ first_slacks n (slacks_in self.entry) }
+    {
+        SlackColumns {
+            bus: &self.bus[..n],
+            angle: &self.angle[..n],
+        }
+    }
 }
 
-fn branches_counted(br_from: &[usize], br_to: &[usize]) -> bool
-    ensures { result ≡ branches_counted (branches_of br_from.now br_to.now) }
-{
-    real::and(br_from.len() <= 64, br_to.len() == br_from.len())
+impl SlackColumnsMut<'_> {
+    // How many rows there is room for.
+    pub fn room(&self) -> usize
+        ensures { result ≡ slacks_room (slacks_lent self.now) }
+    {
+        self.bus.len().min(self.angle.len())
+    }
 }
 
-fn triplets_counted(y_row: &[usize], y_col: &[usize], y_re: &[f64], y_im: &[f64]) -> bool
-    ensures { result ≡ triplets_counted (triplets_of y_row.now y_col.now y_re.now y_im.now) }
-{
-    let n = y_row.len();
-    real::and(n <= 256, equal3(n, y_col.len(), y_re.len(), y_im.len()))
+impl<'a> GeneratorColumns<'a> {
+    #[tactic(auto, unfolding(real::specs::Tests::both))]
+    fn counted(self) -> bool
+        ensures { result ≡ generators_counted (generators_in self.entry) }
+    {
+        let n = self.bus.len();
+        (n <= 32) & ((self.qmin.len() == n) & (self.qmax.len() == n))
+    }
+
+    // The first n rows.
+    pub fn first(self, n: usize) -> GeneratorColumns<'a>
+        requires { RoomGenerators n (generators_in self) }
+        ensures { generators_in result ≡ first_generators n (generators_in self.entry) }
+    {
+        GeneratorColumns {
+            bus: &self.bus[..n],
+            qmin: &self.qmin[..n],
+            qmax: &self.qmax[..n],
+        }
+    }
 }
 
-pub fn counted(
-    kind: &[u8],
-    vm_set: &[f64],
-    pd: &[f64],
-    qd: &[f64],
-    pg: &[f64],
-    qg: &[f64],
-    vm_case: &[f64],
-    va_case: &[f64],
-    slacks: &[usize],
-    va_slacks: &[f64],
-    gen_bus: &[usize],
-    qmin: &[f64],
-    qmax: &[f64],
-    br_from: &[usize],
-    br_to: &[usize],
-    y_row: &[usize],
-    y_col: &[usize],
-    y_re: &[f64],
-    y_im: &[f64],
-) -> bool
-    ensures { result ≡ counted (network_of
-        (buses_of kind.now vm_set.now pd.now qd.now pg.now qg.now
-        vm_case.now va_case.now)
-        (slacks_of slacks.now va_slacks.now)
-        (generators_of gen_bus.now qmin.now qmax.now)
-        (branches_of br_from.now br_to.now)
-        (triplets_of y_row.now y_col.now y_re.now y_im.now)) }
-{
-    let b = buses_counted(kind, vm_set, pd, qd, pg, qg, vm_case, va_case);
-    let r = slacks_counted(slacks, va_slacks);
-    let g = generators_counted(gen_bus, qmin, qmax);
-    let l = branches_counted(br_from, br_to);
-    let y = triplets_counted(y_row, y_col, y_re, y_im);
-    real::and(b, real::and(r, real::and(g, real::and(l, y))))
+impl GeneratorColumnsMut<'_> {
+    // How many rows there is room for.
+    pub fn room(&self) -> usize
+        ensures { result ≡ generators_room (generators_lent self.now) }
+    {
+        self.bus.len().min(self.qmin.len()).min(self.qmax.len())
+    }
 }
 
-// The same of the nine columns of numbers beside the ends of n branches.
-pub fn values_counted(
-    n: usize,
-    g: &[f64],
-    b: &[f64],
-    g_fr: &[f64],
-    b_fr: &[f64],
-    g_to: &[f64],
-    b_to: &[f64],
-    tap: &[f64],
-    shift: &[f64],
-    sw: &[f64],
-) -> bool
-    ensures { result ≡ values_counted n
-        (values_of g.now b.now g_fr.now b_fr.now g_to.now b_to.now tap.now
-        shift.now sw.now) }
-{
-    let same = equal7(
-        n,
-        g.len(),
-        b.len(),
-        g_fr.len(),
-        b_fr.len(),
-        g_to.len(),
-        b_to.len(),
-        tap.len(),
-    );
-    real::and(same, real::and(shift.len() == n, sw.len() == n))
+impl<'a> BranchColumns<'a> {
+    #[tactic(auto, unfolding(real::specs::Tests::both))]
+    fn counted(self) -> bool
+        ensures { result ≡ branches_counted (branches_in self.entry) }
+    {
+        (self.from.len() <= 64) & (self.to.len() == self.from.len())
+    }
+
+    // The first n rows.
+    pub fn first(self, n: usize) -> BranchColumns<'a>
+        requires { RoomBranches n (branches_in self) }
+        ensures { branches_in result ≡ first_branches n (branches_in self.entry) }
+    {
+        BranchColumns {
+            from: &self.from[..n],
+            to: &self.to[..n],
+        }
+    }
+}
+
+impl BranchColumnsMut<'_> {
+    // How many rows there is room for.
+    pub fn room(&self) -> usize
+        ensures { result ≡ branches_room (branches_lent self.now) }
+    {
+        self.from.len().min(self.to.len())
+    }
+}
+
+impl<'a> TripletColumns<'a> {
+    #[tactic(auto, unfolding(real::specs::Tests::both))]
+    fn counted(self) -> bool
+        ensures { result ≡ triplets_counted (triplets_in self.entry) }
+    {
+        let n = self.row.len();
+        (n <= 256) & equal3(n, self.col.len(), self.re.len(), self.im.len())
+    }
+
+    // The first n rows.
+    pub fn first(self, n: usize) -> TripletColumns<'a>
+        requires { RoomTriplets n (triplets_in self) }
+        ensures { triplets_in result ≡ first_triplets n (triplets_in self.entry) }
+    {
+        TripletColumns {
+            row: &self.row[..n],
+            col: &self.col[..n],
+            re: &self.re[..n],
+            im: &self.im[..n],
+        }
+    }
+}
+
+impl TripletColumnsMut<'_> {
+    // How many rows there is room for.
+    pub fn room(&self) -> usize
+        ensures { result ≡ triplets_room (triplets_lent self.now) }
+    {
+        self.row
+            .len()
+            .min(self.col.len())
+            .min(self.re.len().min(self.im.len()))
+    }
+}
+
+impl<'a> ValueColumns<'a> {
+    // Whether each has n numbers.
+    #[tactic(auto, unfolding(real::specs::Tests::both, crate::specs::BranchTable::values_counted))]
+    pub fn counted(self, n: usize) -> bool
+        ensures { result ≡ values_counted n (values_in self.entry) }
+    {
+        let same = equal7(
+            n,
+            self.g.len(),
+            self.b.len(),
+            self.g_fr.len(),
+            self.b_fr.len(),
+            self.g_to.len(),
+            self.b_to.len(),
+            self.tap.len(),
+        );
+        same & ((self.shift.len() == n) & (self.sw.len() == n))
+    }
+
+    // The first n rows.
+    pub fn first(self, n: usize) -> ValueColumns<'a>
+        requires { RoomValues n (values_in self) }
+        ensures { values_in result ≡ first_values n (values_in self.entry) }
+    {
+        ValueColumns {
+            g: &self.g[..n],
+            b: &self.b[..n],
+            g_fr: &self.g_fr[..n],
+            b_fr: &self.b_fr[..n],
+            g_to: &self.g_to[..n],
+            b_to: &self.b_to[..n],
+            tap: &self.tap[..n],
+            shift: &self.shift[..n],
+            sw: &self.sw[..n],
+        }
+    }
+}
+
+impl ValueColumnsMut<'_> {
+    // How many rows there is room for.
+    pub fn room(&self) -> usize
+        ensures { result ≡ values_room (values_lent self.now) }
+    {
+        self.g
+            .len()
+            .min(self.b.len())
+            .min(self.g_fr.len().min(self.b_fr.len()))
+            .min(
+                self.g_to
+                    .len()
+                    .min(self.b_to.len())
+                    .min(self.tap.len().min(self.shift.len())),
+            )
+            .min(self.sw.len())
+    }
+}
+
+impl<'a> Tables<'a> {
+    #[tactic(auto, unfolding(real::specs::Tests::both, crate::specs::Checks::counted))]
+    pub fn counted(self) -> bool
+        ensures { result ≡ counted (network_in self.entry) }
+    {
+        self.buses.counted()
+            & (self.slacks.counted()
+                & (self.generators.counted() & (self.branches.counted() & self.triplets.counted())))
+    }
+
+    // The first rows of each.
+    pub fn first(self, rows: Rows) -> Tables<'a>
+        requires { RoomFor rows (network_in self) }
+        ensures { network_in result ≡ first_rows rows (network_in self.entry) }
+    {
+        Tables {
+            buses: self.buses.first(rows.buses),
+            slacks: self.slacks.first(rows.slacks),
+            generators: self.generators.first(rows.generators),
+            branches: self.branches.first(rows.branches),
+            triplets: self.triplets.first(rows.triplets),
+        }
+    }
+}
+
+impl TablesMut<'_> {
+    // How many rows of each there is room for.
+    pub fn room(&self) -> Rows
+        ensures { result ≡ room_of (network_lent self.now) }
+    {
+        Rows {
+            buses: self.buses.room(),
+            slacks: self.slacks.room(),
+            generators: self.generators.room(),
+            branches: self.branches.room(),
+            triplets: self.triplets.room(),
+        }
+    }
+}
+
+impl<'a> BranchTables<'a> {
+    // The first rows of each.
+    pub fn first(self, rows: Rows) -> BranchTables<'a>
+        requires { RoomForBranches rows (branch_network_in self) }
+        ensures { branch_network_in result ≡ first_branch_rows rows (branch_network_in self.entry) }
+    {
+        BranchTables {
+            buses: self.buses.first(rows.buses),
+            slacks: self.slacks.first(rows.slacks),
+            generators: self.generators.first(rows.generators),
+            ends: self.ends.first(rows.branches),
+            values: self.values.first(rows.branches),
+        }
+    }
+
+    // The same case with these triplets, as the first edition has it.
+    pub fn with_triplets(self, triplets: TripletColumns<'a>) -> Tables<'a>
+        ensures { network_in result ≡ with_triplets (branch_network_in self.entry) (triplets_in triplets.entry) }
+    {
+        Tables {
+            buses: self.buses,
+            slacks: self.slacks,
+            generators: self.generators,
+            branches: self.ends,
+            triplets,
+        }
+    }
+}
+
+impl BranchTablesMut<'_> {
+    // How many rows of each there is room for; a case of the second edition has no triplets.
+    pub fn room(&self) -> Rows
+        ensures { result ≡ branch_room_of (branch_network_lent self.now) }
+    {
+        Rows {
+            buses: self.buses.room(),
+            slacks: self.slacks.room(),
+            generators: self.generators.room(),
+            branches: self.ends.room().min(self.values.room()),
+            triplets: 0,
+        }
+    }
 }
 
 // ---- refusals 8, 11, 12 and 13: a row that names a bus which is not there
 
 // The tables whose rows name buses, in the order in which they are looked at.
-#[derive(Clone, Copy)]
+#[derive(Clone, Copy, Debug, PartialEq, Eq)]
 pub enum Naming {
     Slack,
     Generator,
@@ -177,52 +536,40 @@ pub enum Naming {
 }
 
 // Where a missing bus is named first: the table, its row, and which of the row's bus numbers it is, 0 or 1; a row with one has 0.
-#[derive(Clone, Copy)]
-pub enum MissingBus {
-    At {
-        table: Naming,
-        row: usize,
-        field: usize,
-    },
-    Nowhere,
+#[derive(Clone, Copy, Debug, PartialEq, Eq)]
+pub struct MissingBus {
+    pub table: Naming,
+    pub row: usize,
+    pub field: usize,
 }
 
 // The first row of a column whose bus is missing: its number is not below n.
-pub fn first_missing(n: usize, l: &[usize]) -> First
-    ensures { result ≡ first_below (length l.now) (bus_missing n l.now) }
+pub fn first_missing(n: usize, l: &[usize]) -> Option<usize>
+    ensures { result ≡ position (λ bus. leb n bus) l.now }
 {
-    let mut found = First::Nowhere;
-    for i in 0..l.len() {
-        found = real::earlier(found, real::if_at(n <= l[i], i));
-    }
-    found
+    l.iter().position(|&bus| n <= bus)
 }
 
 // The same of rows that name two buses.
-fn first_missing_end(n: usize, a: &[usize], b: &[usize]) -> First
+fn first_missing_end(n: usize, a: &[usize], b: &[usize]) -> Option<usize>
     requires { length b.now ≡ length a.now }
-    ensures { result ≡ first_below (length a.now) (end_missing n a.now b.now) }
+    ensures { result ≡ position (λ ends. leb n ends.0 || leb n ends.1) (zip a.now b.now) }
 {
-    let mut found = First::Nowhere;
-    for i in 0..a.len() {
-        found = real::earlier(found, real::if_at(real::or(n <= a[i], n <= b[i]), i));
-    }
-    found
+    a.iter()
+        .zip(b)
+        .position(|(&from, &to)| n <= from || n <= to)
 }
 
 // The first row at fault of a table whose rows name one bus.
-fn in_column(n: usize, table: Naming, l: &[usize]) -> MissingBus
+fn in_column(n: usize, table: Naming, l: &[usize]) -> Option<MissingBus>
     ensures { result ≡ in_column n table l.now }
 {
-    let found = first_missing(n, l);
-    match found {
-        First::At(row) => MissingBus::At {
-            table,
-            row,
-            field: 0,
-        },
-        First::Nowhere => MissingBus::Nowhere,
-    }
+    let row = first_missing(n, l)?;
+    Some(MissingBus {
+        table,
+        row,
+        field: 0,
+    })
 }
 
 // The first field at fault of a row whose first bus number is this.
@@ -233,48 +580,28 @@ fn first_field(n: usize, bus: usize) -> usize
 }
 
 // The first row at fault of a table whose rows name two.
-fn in_ends(n: usize, table: Naming, a: &[usize], b: &[usize]) -> MissingBus
+fn in_ends(n: usize, table: Naming, a: &[usize], b: &[usize]) -> Option<MissingBus>
     requires { length b.now ≡ length a.now }
     ensures { result ≡ in_ends n table a.now b.now }
 {
-    let found = first_missing_end(n, a, b);
-    match found {
-        First::At(row) => MissingBus::At {
-            table,
-            row,
-            field: first_field(n, a[row]),
-        },
-        First::Nowhere => MissingBus::Nowhere,
-    }
-}
-
-// The one found, or else the next.
-fn or_next(found: MissingBus, next: MissingBus) -> MissingBus
-    ensures { result ≡ or_next found next }
-{
-    match found {
-        MissingBus::At { table, row, field } => MissingBus::At { table, row, field },
-        MissingBus::Nowhere => next,
-    }
+    let row = first_missing_end(n, a, b)?;
+    Some(MissingBus {
+        table,
+        row,
+        field: first_field(n, a[row]),
+    })
 }
 
 // The first row at fault of the first table that has one: slack rows, generators, branches, triplets.
-pub fn missing_bus(
-    n: usize,
-    slacks: &[usize],
-    gen_bus: &[usize],
-    br_from: &[usize],
-    br_to: &[usize],
-    y_row: &[usize],
-    y_col: &[usize],
-) -> MissingBus
-    requires { (length br_to.now ≡ length br_from.now) × (length y_col.now ≡ length y_row.now) }
-    ensures { result ≡ missing_by n slacks.now gen_bus.now br_from.now br_to.now
-        y_row.now y_col.now }
+#[tactic(auto, unfolding(crate::specs::Missing::missing_in))]
+pub fn missing_bus(t: Tables) -> Option<MissingBus>
+    requires { (length t.branches.to.now ≡ length t.branches.from.now) × (length t.triplets.col.now ≡ length t.triplets.row.now) }
+    ensures { result ≡ missing_in (network_in t.entry) }
 {
-    let r = in_column(n, Naming::Slack, slacks);
-    let g = in_column(n, Naming::Generator, gen_bus);
-    let l = in_ends(n, Naming::Branch, br_from, br_to);
-    let y = in_ends(n, Naming::Triplet, y_row, y_col);
-    or_next(r, or_next(g, or_next(l, y)))
+    let n = t.buses.kind.len();
+    let r = in_column(n, Naming::Slack, t.slacks.bus);
+    let g = in_column(n, Naming::Generator, t.generators.bus);
+    let l = in_ends(n, Naming::Branch, t.branches.from, t.branches.to);
+    let y = in_ends(n, Naming::Triplet, t.triplets.row, t.triplets.col);
+    r.or(g.or(l.or(y)))
 }

@@ -2,16 +2,14 @@
 -- accepted steps, except that 50 reads 49. The workspace goes through all of it, so that its places are known at the end too.
 pub mod Laws
 pub mod Space
-use Rattle.std.specs.Prelude.{ℕ, zero, suc, ◌+◌, ◌≤◌, true, false, cond, List, length, get_or, Float}
+use Rattle.std.specs.Prelude.{ℕ, zero, suc, ◌+◌, ◌≤◌, true, false, cond, List, length, get_or, Float, Ok, Err}
 use Rattle.std.specs.Float.{nan, binary64}
 use Rattle.std.specs.Float.Ieee.{mul, lt}
 use Rattle.real.specs.Literals.{one, half, tolerance}
 use Rattle.real.specs.Norm.{norm_of}
 use Rattle.layout.specs.declared.AcPfLayout.{AcPfLayout}
 use Rattle.layout.specs.Residual.{powers, residual_of}
-use Rattle.linsolve.specs.declared.Solution.{Solution}
-use Rattle.linsolve.specs.declared.Solution.TheVariants as Solution
-use Rattle.linsolve.specs.Linear.{Outcome, answer_of, space_of, cleared, with_sides, solution}
+use Rattle.linsolve.specs.Linear.{Answer, Outcome, answer_of, space_of, cleared, with_sides, solution}
 use Rattle.network.specs.Network.{Triplets}
 use Rattle.injections.specs.Injections.{GoodTriplets, injections_of}
 use Rattle.injections.specs.Jacobian.{jacobian_of}
@@ -102,9 +100,9 @@ ended p it m how = record { point = p; phasors = m.phasors; iterations = it; res
 abbrev pub last_ending : Float → Ending
 last_ending res = cond (lt res tolerance) Converged Spent
 
-abbrev pub by_solution : Solution → (ℕ → Run) → Run → Run
-by_solution Solution.Solved f r = r
-by_solution (Solution.Singular c) f r = f c
+abbrev pub by_solution : Answer → (ℕ → Run) → Run → Run
+by_solution (Ok x) f r = r
+by_solution (Err s) f r = f s.column
 
 -- the next k steps, of which `it` are done
 unfoldable pub steps_from : ℕ → ℕ → (Point → Measured) → Triplets → AcPfLayout → Point → Measured → List Float → Run

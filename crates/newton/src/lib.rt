@@ -11,7 +11,7 @@ ghost use Rattle.newton.specs.Newton.{Problem, problem, GoodProblem, measured_of
 
 use injections::Phasors;
 use layout::{AcPfLayout, Point};
-use linsolve::Solution;
+use linsolve::Singular;
 use real::TOL;
 
 // What was worked out at a point: voltages and currents, the mismatch at each row, and its norm.
@@ -161,7 +161,7 @@ fn direction(
     va: [f64; 32],
     m: Measured,
     w: &mut [f64],
-) -> Solution
+) -> Result<(), Singular>
     requires { let y : Triplets = triplets_of y_row.now y_col.now y_re.now y_im.now in
         GoodTriplets layout.n y × (layout.dim ≤ 64) × (4160 ≤ length w.old) }
     ensures { let y : Triplets = triplets_of y_row.now y_col.now y_re.now y_im.now in
@@ -307,14 +307,14 @@ pub fn newton(
         }
         let va = p.va;
         let found = direction(y_row, y_col, y_re, y_im, layout, va, m, w);
-        if let Solution::Singular(c) = found {
+        if let Err(singular) = found {
             let phasors = m.phasors;
             return Ended {
                 point: p,
                 phasors,
                 iterations: it,
                 residual: m.residual,
-                ending: Ending::Singular(c),
+                ending: Ending::Singular(singular.column),
             };
         }
         let t = search(y_row, y_col, y_re, y_im, layout, pd, qd, pg, qg, p, m, w);

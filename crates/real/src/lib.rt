@@ -1,11 +1,9 @@
 // What the Rust takes from f64: is_nan, is_finite, abs, max; and inf_norm. The literals and the small tests that the crates above share.
 #![tactic(auto)]
 
-ghost use Rattle.std.specs.Prelude.{◌≡◌, ◌||◌, ◌≤◌, min};
+ghost use Rattle.std.specs.Prelude.{◌≡◌, ◌≤◌};
 ghost use Rattle.std.specs.Float.Ieee.{is_nan};
 ghost use Rattle.std.specs.Float.Ieee.Scale.{finite};
-ghost use Rattle.real.specs.Tests.{both};
-ghost use Rattle.real.specs.First.{earlier, if_at};
 ghost use Rattle.real.specs.Real.{absolute, max_of};
 ghost use Rattle.real.specs.Norm.{norm_of};
 
@@ -33,54 +31,11 @@ pub fn is_finite(x: f64) -> bool
     false
 }
 
-// Both tests are worked out, so a loop over them has one way through.
-pub fn or(a: bool, b: bool) -> bool
-    ensures { result ≡ (a || b) }
-{
-    if a { true } else { b }
-}
-
-pub fn and(a: bool, b: bool) -> bool
-    ensures { result ≡ both a b }
-{
-    if a { b } else { false }
-}
-
-pub fn least(a: usize, b: usize) -> usize
-    ensures { (result ≡ min a b) × (result ≤ b) }
-{
-    if a < b { a } else { b }
-}
-
 // What a refusal gives beside its number: a place, a count, a row or a field; or a mismatch.
-#[derive(Clone, Copy)]
+#[derive(Clone, Copy, Debug, PartialEq)]
 pub enum Value {
     Whole(usize),
     Real(f64),
-}
-
-// The first number that passes a test, or that none does.
-#[derive(Clone, Copy)]
-pub enum First {
-    At(usize),
-    Nowhere,
-}
-
-// The number i where it passes.
-pub fn if_at(passes: bool, i: usize) -> First
-    ensures { result ≡ if_at passes i }
-{
-    if passes { First::At(i) } else { First::Nowhere }
-}
-
-// The one found, or else the next.
-pub fn earlier(found: First, next: First) -> First
-    ensures { result ≡ earlier found next }
-{
-    match found {
-        First::At(i) => First::At(i),
-        First::Nowhere => next,
-    }
 }
 
 // The sign is cleared, that of -0.0 too.
@@ -112,8 +67,7 @@ pub fn inf_norm(n: usize, v: &[f64; 64]) -> f64
     ensures { result ≡ norm_of n v.now }
 {
     let mut norm = 0.0;
-    for i in 0..n {
-        let x = v[i];
+    for &x in &v[..n] {
         if is_nan(x) {
             return x;
         }

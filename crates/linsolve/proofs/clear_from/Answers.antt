@@ -1,23 +1,23 @@
--- `linsolve::clear_from` meets its contract. The invariant: what is left from here gives what all of it gives from the start. Assumes nothing.
-use mathlib.Core.Path.{◌≡◌, refl}
-use Prim.Native.Nat.{suc, ◌+◌, ◌-◌}
-use native.Mathlib.Omega.{arith}
-use lib.ListN.{length-set}
-use Rattle.linsolve.specs.Linear.Laws.{zeroed-turn, zeroed-end}
+-- `linsolve::clear_from` meets its contract: a fill of n places is n stores, one after the other. Assumes nothing.
+use Rattle.std.proofs.Common.{◌≡◌, ℕ, zero, suc, ◌+◌, ◌≤◌, List, length, replicate, take, drop, refl, arith, add-one, length-take, length-drop, append_assoc}
+use Rattle.std.proofs.lemmas.List.{length-replicate, drop-drop}
+use Rattle.std.proofs.lemmas.List.Edits.{sets, sets-eq}
+use borrow.Rule.Slice.PartMut.{put_mid}
+use lib.Ieee.{Float}
+use Rattle.real.specs.Literals.{nought}
+use Rattle.linsolve.specs.Linear.{zeroed}
 use Rattle.linsolve.proofs.clear_from.Goals as goal
 
-pub loop-i-init : goal.loop-i-init
-loop-i-init c =
-    let e : c.args.start + c.args.count - c.args.start ≡ c.args.count = omega arith in
-    (omega arith, refl, rw e)
+stores : (n i : ℕ) (w : List Float) → zeroed n i w ≡ sets w i (replicate n nought)
+unfolding zeroed
+stores zero i w = refl
+stores (suc n) i w = rw (stores n (i + 1)) (rw add-one refl)
 
-pub loop-i-preserved : goal.loop-i-preserved
-loop-i-preserved c =
-    let end = c.args.start + c.args.count in
-    let e : end - c.loop-i.i ≡ suc (end - (c.loop-i.i + 1)) = omega arith in
-    (omega arith, simp length-set c.loop-i.invariant.1, rw (e, zeroed-turn) at c.loop-i.invariant.2)
+filled : (n i m : ℕ) (w : List Float) → m ≡ n → i + n ≤ length w → put_mid i m w (replicate (length (take m (drop i w))) nought) ≡ zeroed n i w
+filled n i m w e h =
+    let l : length (take n (drop i w)) ≡ n = omega (arith, length-take {A = Float}, length-drop {A = Float}) in
+    let k : length (replicate n nought) ≡ n = length-replicate n nought in
+    rw (e, l, stores n i w, sets-eq (replicate n nought) w i (omega arith), k, drop-drop) (simp append_assoc)
 
 pub returns : goal.returns
-returns c =
-    let e : c.args.start + c.args.count - c.loop-i.i ≡ 0 = omega arith in
-    rw (e, zeroed-end) at c.loop-i.invariant.2
+returns c = rw (c.fill.ensures.after (λ y e. e)) (filled _ _ _ _ (omega arith) (omega arith))

@@ -1,12 +1,9 @@
 -- `linsolve::pivot_row` meets its contract. The invariant: what is left from here gives what all of it gives from the start. Assumes nothing.
 use mathlib.Core.Path.{◌≡◌}
-use Prim.Native.Nat.{◌-◌, ◌≤◌}
+use Prim.Native.Nat.{◌-◌}
 use Rattle.real.specs.Literals.{nought}
 use Rattle.linsolve.specs.Linear.{pivot_from}
 use Rattle.linsolve.proofs.pivot_row.Given as goal
 
 abbrev pub invariant-loop-r : goal.invariant-loop-r
-invariant-loop-r l = (l.r ≤ l.dim) × (pivot_from (l.dim - l.r) l.r l.col l.best l.p l.w ≡ pivot_from (l.dim - l.col) l.col l.col nought l.dim l.w)
-
-abbrev pub decreases-loop-r : goal.decreases-loop-r
-decreases-loop-r l = l.dim - l.r
+invariant-loop-r l = pivot_from (l.dim - l.r) l.r l.col l.best l.p l.w ≡ pivot_from (l.dim - l.col) l.col l.col nought l.dim l.w

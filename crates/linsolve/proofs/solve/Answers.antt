@@ -1,20 +1,18 @@
--- `linsolve::solve` meets its contract: what follows the reduction, by the variant that the match found, and then the law that this is 01's rule.
--- Assumes nothing.
+-- `linsolve::solve` meets its contract: what follows the reduction, by its answer, and then the law that this is 01's rule. Assumes nothing.
 use mathlib.Core.Path.{◌∙◌}
 use native.Mathlib.Omega.{arith}
+use Rattle.std.proofs.lemmas.Result.{err_from_is_err_and}
 use Rattle.linsolve.specs.Linear.Laws.{worked-solved, worked-singular}
 use Rattle.linsolve.proofs.Whole.{ours-is-the-rules}
 use Rattle.linsolve.proofs.solve.Goals as goal
 
-pub returns-in-Solved : goal.returns-in-Solved
-returns-in-Solved c =
-    let told = c.in-Solved.is in
-    let red = c.reduce_rows-found.ensures in
-    let back = c.substitute_back.ensures in
-    (rw back (worked-solved _ _ _ _ (rw told at red))) ∙ ours-is-the-rules _ _ (omega arith)
+pub returns : goal.returns
+returns c =
+    let red = rw c.in_ok-reduce_rows.was at c.reduce_rows.ensures in
+    rw c.substitute_back.ensures (worked-solved _ _ _ _ red) ∙ ours-is-the-rules _ _ (omega arith)
 
-pub returns-in-Singular : goal.returns-in-Singular
-returns-in-Singular c =
-    let found = c.in-Singular.is in
-    let red = c.reduce_rows-found.ensures in
-    worked-singular _ _ _ _ _ (rw found at red) ∙ ours-is-the-rules _ _ (omega arith)
+pub returns-in_err-reduce_rows : goal.returns-in_err-reduce_rows
+returns-in_err-reduce_rows c =
+    let red = rw c.in_err-reduce_rows.was at c.reduce_rows.ensures in
+    let p = err_from_is_err_and c.from_residual.result c.from_residual.ensures.1 in
+    rw (p.1, p.2) (worked-singular _ _ _ _ _ red ∙ ours-is-the-rules _ _ (omega arith))

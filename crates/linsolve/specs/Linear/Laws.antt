@@ -1,6 +1,6 @@
 -- What the proofs of the solve and its callers cite: each definition's turn and end, the ways through the solve, and what it leaves alone.
 -- Assumes nothing.
-use Rattle.std.specs.Prelude.{◌≢◌, ◌≡◌, Bool, true, false, cond, List, eqb, length, set, Float}
+use Rattle.std.specs.Prelude.{◌≢◌, ◌≡◌, Bool, true, false, cond, List, eqb, length, set, Float, Ok, Err}
 use Rattle.std.proofs.Math.Logic.{⊎_elim}
 use Rattle.std.proofs.Math.Path.{refl}
 use Rattle.std.proofs.Common.{◌∙◌, arith, eq-or-lt_of_le, length-set, get_or-set_same, get_or-set_other}
@@ -12,8 +12,8 @@ use Rattle.std.specs.Float.Ieee.{sub, mul, div, lt}
 use Rattle.real.specs.Tests.{cond_either}
 use Rattle.real.specs.Literals.{nought}
 use Rattle.real.specs.Real.{absolute}
-use Rattle.linsolve.specs.declared.Solution.TheVariants.{Solved, Singular}
-use Rattle.linsolve.specs.Linear.{at, zeroed, clear_rows, cleared, added, pivot_from, swapped, swap_rows, less, sub_row, whole_row, after_pivot, sub_lower, Outcome, outcome, answer_of, space_of, reduce, less_known, substitute, worked_out, with_sides, solution}
+use Rattle.linsolve.specs.declared.Singular.{Singular}
+use Rattle.linsolve.specs.Linear.{at, zeroed, clear_rows, cleared, added, pivot_from, swapped, swap_rows, less, sub_row, whole_row, after_pivot, sub_lower, solved, singular, Outcome, outcome, answer_of, space_of, reduce, less_known, substitute, worked_out, with_sides, solution}
 
 -- ---- Turns and ends
 
@@ -87,12 +87,12 @@ module _ (first : ℕ → ℕ) where
   unfolding sub_lower
   lower-turn n r p dim w = refl
 
-  pub reduce-end : (col dim : ℕ) (w : List Float) → reduce first 0 col dim w ≡ outcome Solved w
+  pub reduce-end : (col dim : ℕ) (w : List Float) → reduce first 0 col dim w ≡ outcome solved w
   unfolding reduce
   reduce-end col dim w = refl
 
   module _ (n col dim p : ℕ) (w : List Float) (is : p ≡ pivot_from (dim - col) col col nought dim w) where
-    pub reduce-singular : p ≡ dim → reduce first (suc n) col dim w ≡ outcome (Singular col) w
+    pub reduce-singular : p ≡ dim → reduce first (suc n) col dim w ≡ outcome (singular col) w
     unfolding reduce
     reduce-singular h = rw (← is, eq-eqb p dim h)
 
@@ -123,13 +123,13 @@ substitute-turn r dim w = refl
 -- ---- The ways through the solve
 
 module _ (first : ℕ → ℕ) (dim : ℕ) (w v : List Float) where
-  pub worked-solved : outcome Solved v ≡ reduce first dim 0 dim w → outcome Solved (substitute dim dim v) ≡ worked_out first dim w
+  pub worked-solved : outcome solved v ≡ reduce first dim 0 dim w → outcome solved (substitute dim dim v) ≡ worked_out first dim w
   unfolding worked_out
   worked-solved e = rw (← e)
 
-  pub worked-singular : (c : ℕ) → outcome (Singular c) v ≡ reduce first dim 0 dim w → outcome (Singular c) v ≡ worked_out first dim w
+  pub worked-singular : (s : Singular) → outcome (Err s) v ≡ reduce first dim 0 dim w → outcome (Err s) v ≡ worked_out first dim w
   unfolding worked_out
-  worked-singular c e = rw (← e)
+  worked-singular s e = rw (← e)
 
 whole-outcome : (o : Outcome) → o ≡ outcome (answer_of o) (space_of o)
 whole-outcome (outcome s w) = refl
@@ -148,7 +148,7 @@ unfolding solution
 solution-ours dim w a s = rw (a, sides-same dim _ _ s) (whole-outcome (worked_out after_pivot dim w))
 
 -- no unknowns: solved, and nothing touched
-pub solution-of-none : (w : List Float) → solution 0 w ≡ outcome Solved w
+pub solution-of-none : (w : List Float) → solution 0 w ≡ outcome solved w
 unfolding solution
 solution-of-none w = refl
 
@@ -247,8 +247,8 @@ worked_kept : (dim : ℕ) (w : List Float) → Kept dim w (space_of (worked_out 
 worked_kept dim w = go (reduce after_pivot dim 0 dim w) refl (reduce-kept dim 0 dim w (omega arith))
   where
     go : (o : Outcome) → o ≡ reduce after_pivot dim 0 dim w → Kept dim w (space_of o) → Kept dim w (space_of (worked_out after_pivot dim w))
-    go (outcome Solved v) e k = rw (← (worked-solved after_pivot dim w v e)) (kept_on k (substitute-kept dim dim v (omega arith)))
-    go (outcome (Singular c) v) e k = rw (← (worked-singular after_pivot dim w v c e)) k
+    go (outcome (Ok x) v) e k = rw (← (worked-solved after_pivot dim w v e)) (kept_on k (substitute-kept dim dim v (omega arith)))
+    go (outcome (Err s) v) e k = rw (← (worked-singular after_pivot dim w v s e)) k
 
 sides-kept : (n dim : ℕ) (f : ℕ → Float) (w : List Float) → n ≤ dim → Kept dim w (with_sides n f w)
 unfolding with_sides

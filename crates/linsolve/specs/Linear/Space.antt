@@ -1,6 +1,6 @@
 -- What stood in a lent workspace cannot show: the solve reads only the entries and right sides of the first dim rows, which the clearing writes.
 -- Assumes nothing.
-use Rattle.std.specs.Prelude.{◌≢◌, ◌≡◌, Bool, true, false, List, eqb, length, set, Float}
+use Rattle.std.specs.Prelude.{◌≢◌, ◌≡◌, Bool, true, false, List, eqb, length, set, Float, Ok, Err}
 use Rattle.std.proofs.Common.{⊎_elim, sym, ◌∙◌, arith, eqb-true, length-set, get_or-set_same, get_or-set_other}
 use Rattle.std.proofs.Math.Path.{refl}
 use Prim.Native.Nat.{ℕ, zero, suc, ◌+◌, ◌-◌, ◌*◌, ◌≤◌, ◌<◌}
@@ -9,9 +9,7 @@ use Rattle.std.proofs.Math.Seq.{set_out}
 use Rattle.std.specs.Float.{nan}
 use Rattle.real.specs.Tests.{same_or_not, below_or}
 use Rattle.real.specs.Literals.{nought}
-use Rattle.linsolve.specs.declared.Solution.{Solution}
-use Rattle.linsolve.specs.declared.Solution.TheVariants.{Solved, Singular}
-use Rattle.linsolve.specs.Linear.{at, cleared, added, with_sides, pivot_from, swapped, swap_rows, less, sub_row, whole_row, after_pivot, sub_lower, Outcome, outcome, answer_of, space_of, reduce, less_known, substitute, finish, worked_out, solution}
+use Rattle.linsolve.specs.Linear.{at, cleared, added, with_sides, pivot_from, swapped, swap_rows, less, sub_row, whole_row, after_pivot, sub_lower, Answer, Outcome, outcome, answer_of, space_of, reduce, less_known, substitute, finish, worked_out, solution}
 use Rattle.linsolve.specs.Linear.Laws.{pivot-below, reduce-end, reduce-singular, reduce-on, cleared-kept, cleared-entry, cleared-side}
 
 -- two workspaces of one length, with room for a matrix and its right sides
@@ -27,7 +25,7 @@ pub record Alike (dim : ℕ) (w v : List Float) : Type 0 where
 
 -- one answer, and workspaces that are alike
 pub data AlikeOutcomes : ℕ → Outcome → Outcome → Type 0 where
-  alike_outcomes : {dim : ℕ} {s : Solution} {w v : List Float} → Alike dim w v → AlikeOutcomes dim (outcome s w) (outcome s v)
+  alike_outcomes : {dim : ℕ} {s : Answer} {w v : List Float} → Alike dim w v → AlikeOutcomes dim (outcome s w) (outcome s v)
 
 -- cleared workspaces are alike, whatever stood there
 pub cleared-alike : (dim : ℕ) (w v : List Float) → dim ≤ 64 → Lent w v → Alike dim (cleared dim w) (cleared dim v)
@@ -151,8 +149,8 @@ module _ {dim : ℕ} where
     worked-alike a = go (reduce-alike a dim 0 (omega arith))
       where
         go : {o q : Outcome} → AlikeOutcomes dim o q → AlikeOutcomes dim (finish dim o) (finish dim q)
-        go (alike_outcomes {s = Solved} b) = alike_outcomes (substitute-alike b dim (omega arith))
-        go (alike_outcomes {s = Singular c} b) = alike_outcomes b
+        go (alike_outcomes {s = Ok x} b) = alike_outcomes (substitute-alike b dim (omega arith))
+        go (alike_outcomes {s = Err s} b) = alike_outcomes b
 
   -- the solve of workspaces that are alike has one answer, and leaves them alike
   pub solution-space : {w v : List Float} → Alike dim w v → AlikeOutcomes dim (solution dim w) (solution dim v)

@@ -1,11 +1,12 @@
 -- `network::in_column` meets its contract: the row that the search tells. Assumes nothing.
 use Rattle.network.specs.Missing.{in_column}
+use Rattle.network.specs.Missing.Laws.{column_found}
 use Rattle.network.proofs.in_column.Goals as goal
 
-pub returns-in-At : goal.returns-in-At
+pub returns-in_err-row : goal.returns-in_err-row
 unfolding in_column
-returns-in-At c = rw (← c.first_missing-found.ensures, c.in-At.is)
+returns-in_err-row c = rw (← column_found c.args.n c.args.l.now, ← c.first_missing.ensures, c.in_err-row.was) c.from_residual.ensures
 
-pub returns-in-Nowhere : goal.returns-in-Nowhere
+pub returns : goal.returns
 unfolding in_column
-returns-in-Nowhere c = rw (← c.first_missing-found.ensures, c.in-Nowhere.is)
+returns c = rw (← column_found c.args.n c.args.l.now, ← c.first_missing.ensures, c.in_ok-row.was)

@@ -1,10 +1,9 @@
 -- What the tests tell, table by table, and that they tell no more. Assumes nothing.
-use Rattle.std.specs.Prelude.{ℕ, ◌≤◌, ◌≡◌, refl, true, List, length, take}
+use Rattle.std.specs.Prelude.{ℕ, ◌≤◌, ◌≡◌, refl, true, List, length, take, None}
 use Rattle.std.proofs.Common.{sym, ◌∙◌, length-take-le, eqb-true, leb-true, eq-eqb, le-leb}
 use Rattle.real.specs.Tests.{both, both_l, both_r}
 use Rattle.network.specs.Missing.{missing_in, TripletsNamed}
 use Rattle.network.specs.Missing.Laws.{missing-means}
-use Rattle.network.specs.declared.MissingBus.TheVariants.{Nowhere}
 use Rattle.network.specs.declared.Rows.{Rows}
 use Rattle.network.specs.Network.{Buses, Slacks, Generators, Branches, Triplets, Network, bus_count, AtMost, room_of}
 use Rattle.network.specs.Network.{RoomBuses, RoomSlacks, RoomGenerators, RoomBranches, RoomTriplets}
@@ -64,7 +63,7 @@ pub counted-triplets : (t : Network) → counted t ≡ true → SizedTriplets t.
 unfolding counted
 counted-triplets t h = triplets-sized t.triplets (both_r _ _ (both_r _ _ (both_r _ _ (both_r _ _ h))))
 
-pub well-indexed : (t : Network) → counted t ≡ true → missing_in t ≡ Nowhere → WellIndexed t
+pub well-indexed : (t : Network) → counted t ≡ true → missing_in t ≡ None → WellIndexed t
 unfolding counted
 well-indexed t h k =
     let h₁ = both_r _ _ h in

@@ -13,9 +13,9 @@ returns-then-m c =
     sym (steps-done _ _ _ _ _ _ _ _ c.if-m.true)
     ∙ (rw (fuel 50 _ c.loop-it-test.true) at c.loop-it.invariant.2)
 
-pub returns-in-Singular : goal.returns-in-Singular
-returns-in-Singular c =
-    sym (steps-singular _ _ _ _ _ _ _ _ c.if-m.false _ _ (rw c.in-Singular.is at c.direction-found.ensures))
+pub returns-in-Err : goal.returns-in-Err
+returns-in-Err c =
+    sym (steps-singular _ _ _ _ _ _ _ _ c.if-m.false _ _ (rw c.in-Err.is at c.direction-found.ensures))
     ∙ (rw (fuel 50 _ c.loop-it-test.true) at c.loop-it.invariant.2)
 
 pub returns-then-not-t : goal.returns-then-not-t

@@ -1,14 +1,14 @@
 -- Each recursion of Newton's steps, one turn as an equation for each way that it goes, at a fuel that is a variable; and what a run depends on.
 -- Assumes nothing.
 use Prim.Native.Nat.{ℕ, zero, suc, ◌+◌, ◌-◌, ◌<◌}
-use Rattle.std.specs.Prelude.{Bool, true, false, cond, List, ◌≡◌, Float}
+use Rattle.std.specs.Prelude.{Bool, true, false, cond, List, ◌≡◌, Float, Ok, Err}
 use Rattle.std.proofs.Math.Path.{refl, ap}
 use Rattle.std.proofs.Common.{sym, ◌∙◌, arith}
 use Rattle.std.specs.Float.Ieee.{binary64, mul, lt}
 use Rattle.real.specs.Literals.{one, half, tolerance}
 use Rattle.layout.specs.declared.AcPfLayout.{AcPfLayout}
-use Rattle.linsolve.specs.declared.Solution.{Solution}
-use Rattle.linsolve.specs.Linear.{Outcome, outcome, answer_of, space_of, cleared, solution}
+use Rattle.linsolve.specs.declared.Singular as Linsolve
+use Rattle.linsolve.specs.Linear.{Answer, solved, Outcome, outcome, answer_of, space_of, cleared, solution}
 use Rattle.injections.specs.declared.Injections.{Injections}
 use Rattle.network.specs.Network.{Triplets}
 use Rattle.injections.specs.Injections.{injections_of}
@@ -84,12 +84,12 @@ module _ (it : ℕ) (at : Point → Measured) (y : Triplets) (l : AcPfLayout) (p
     steps-done h = rw h
 
     module _ (h : lt m.residual tolerance ≡ false) where
-      pub steps-singular : (c : ℕ) (v : List Float) → outcome (Solution.Singular c) v ≡ direction_of y l p.va m w
-          → steps_from (suc k) it at y l p m w ≡ run (ended p it m (Singular c)) v
+      pub steps-singular : (s : Linsolve.Singular) (v : List Float) → outcome (Err s) v ≡ direction_of y l p.va m w
+          → steps_from (suc k) it at y l p m w ≡ run (ended p it m (Singular s.column)) v
       unfolding steps_from
-      steps-singular c v e = rw (h, ← e)
+      steps-singular s v e = rw (h, ← e)
 
-      module _ (v : List Float) (e : outcome Solution.Solved v ≡ direction_of y l p.va m w) (t : Trial) (et : t ≡ tries_from 12 at l p m v one) where
+      module _ (v : List Float) (e : outcome solved v ≡ direction_of y l p.va m w) (t : Trial) (et : t ≡ tries_from 12 at l p m v one) where
         pub steps-stuck : t.taken ≡ false → steps_from (suc k) it at y l p m w ≡ run (ended p it m Stuck) v
         unfolding steps_from
         steps-stuck ht = rw (h, ← e, ← et, ht)
@@ -139,9 +139,9 @@ module _ (at : Point → Measured) (y : Triplets) (l : AcPfLayout) where
   one_of true r s hr hs = hr
   one_of false r s hr hs = hs
 
-  by_solution_lem : (a : Solution) (f : ℕ → Run) (r : Run) → ((c : ℕ) → AtPoint (f c)) → AtPoint r → AtPoint (by_solution a f r)
-  by_solution_lem Solution.Solved f r hf hr = hr
-  by_solution_lem (Solution.Singular c) f r hf hr = hf c
+  by_solution_lem : (a : Answer) (f : ℕ → Run) (r : Run) → ((c : ℕ) → AtPoint (f c)) → AtPoint r → AtPoint (by_solution a f r)
+  by_solution_lem (Ok x) f r hf hr = hr
+  by_solution_lem (Err s) f r hf hr = hf s.column
 
   steps-at : (k it : ℕ) (p : Point) (m : Measured) → m ≡ at p → (w : List Float) → AtPoint (steps_from k it at y l p m w)
   unfolding steps_from

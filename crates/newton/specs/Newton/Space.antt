@@ -1,6 +1,6 @@
 -- What stood in a lent workspace cannot show: Newton's steps clear it before they read it. Assumes nothing.
 use Prim.Native.Nat.{ℕ, zero, suc, ◌+◌, ◌≤◌, ◌<◌}
-use Rattle.std.specs.Prelude.{Bool, List, ◌≡◌, get_or, Float}
+use Rattle.std.specs.Prelude.{Bool, List, ◌≡◌, get_or, Float, Ok, Err}
 use Rattle.std.proofs.Math.Bool.{true, false, cond}
 use Rattle.std.proofs.Math.Path.{refl}
 use Rattle.std.proofs.Common.{ltb-true}
@@ -15,7 +15,6 @@ use Rattle.layout.specs.declared.Point.{Point}
 use Rattle.layout.specs.Table.Laws.{stores-ext}
 use Rattle.layout.specs.Layout.{none, layout_of, va_col, vm_col}
 use Rattle.layout.specs.Layout.Laws.{dim-most, column-inside}
-use Rattle.linsolve.specs.declared.Solution.TheVariants as Solution
 use Rattle.linsolve.specs.Linear.{Outcome, answer_of, space_of}
 use Rattle.linsolve.specs.Linear.Space as Linear
 use Rattle.linsolve.specs.Linear.Space.{Alike, AlikeOutcomes, alike_outcomes, cleared-alike, sides-alike, solution-space}
@@ -106,8 +105,8 @@ module _ (l : AcPfLayout) (i : Inside l) where
       go : {o q : Outcome} → AlikeOutcomes l.dim o q
           → ((t : Trial) (x z : List Float) → Lent x z → AlikeRuns (steps_from k (it + 1) at y l t.point t.at x) (steps_from k (it + 1) at y l t.point t.at z))
           → AlikeRuns (goes o) (goes q)
-      go (alike_outcomes {s = Solution.Singular c} b) rest = alike_runs b.lent
-      go (alike_outcomes {s = Solution.Solved} {w = x} {v = z} b) rest =
+      go (alike_outcomes {s = Err e} b) rest = alike_runs b.lent
+      go (alike_outcomes {s = Ok y} {w = x} {v = z} b) rest =
           let t = tries_from 12 at l p m z one in
           rw (tries-alike b 12 at p m one) (either AlikeRuns t.taken (rest t x z b.lent) (alike_runs b.lent))
 

@@ -1,5 +1,0 @@
--- `network::slacks_counted` meets its contract, by those of its calls. Assumes nothing.
-use Rattle.network.proofs.slacks_counted.Goals as goal
-
-pub returns : goal.returns
-returns c = cc

@@ -1,5 +1,0 @@
--- `network::triplets_counted` meets its contract, by those of its calls. Assumes nothing.
-use Rattle.network.proofs.triplets_counted.Goals as goal
-
-pub returns : goal.returns
-returns c = cc

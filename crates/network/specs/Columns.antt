@@ -1,0 +1,135 @@
+-- What lent columns hold, as the records of Network and BranchTable: of columns lent for reading, and of those lent for writing; and that columns lent for
+-- writing are still those that were lent.
+use Rattle.std.specs.Prelude.{◌≡◌}
+use Rattle.network.specs.Network.{Buses, Slacks, Generators, Branches, Triplets, Network, buses_of, slacks_of, generators_of, branches_of, triplets_of, network_of}
+use Rattle.network.specs.BranchTable.{Values, BranchTable, BranchNetwork, values_of, branch_table_of, branch_network_of}
+use Rattle.network.specs.declared.BusColumns.{BusColumns}
+use Rattle.network.specs.declared.BusColumnsMut.{BusColumnsMut}
+use Rattle.network.specs.declared.SlackColumns.{SlackColumns}
+use Rattle.network.specs.declared.SlackColumnsMut.{SlackColumnsMut}
+use Rattle.network.specs.declared.GeneratorColumns.{GeneratorColumns}
+use Rattle.network.specs.declared.GeneratorColumnsMut.{GeneratorColumnsMut}
+use Rattle.network.specs.declared.BranchColumns.{BranchColumns}
+use Rattle.network.specs.declared.BranchColumnsMut.{BranchColumnsMut}
+use Rattle.network.specs.declared.TripletColumns.{TripletColumns}
+use Rattle.network.specs.declared.TripletColumnsMut.{TripletColumnsMut}
+use Rattle.network.specs.declared.ValueColumns.{ValueColumns}
+use Rattle.network.specs.declared.ValueColumnsMut.{ValueColumnsMut}
+use Rattle.network.specs.declared.Tables.{Tables}
+use Rattle.network.specs.declared.TablesMut.{TablesMut}
+use Rattle.network.specs.declared.BranchTables.{BranchTables}
+use Rattle.network.specs.declared.BranchTablesMut.{BranchTablesMut}
+
+-- ---- lent for reading
+
+abbrev pub buses_in : BusColumns → Buses
+buses_in c = buses_of c.kind.now c.vm_set.now c.pd.now c.qd.now c.pg.now c.qg.now c.vm_case.now c.va_case.now
+
+abbrev pub slacks_in : SlackColumns → Slacks
+slacks_in c = slacks_of c.bus.now c.angle.now
+
+abbrev pub generators_in : GeneratorColumns → Generators
+generators_in c = generators_of c.bus.now c.qmin.now c.qmax.now
+
+abbrev pub branches_in : BranchColumns → Branches
+branches_in c = branches_of c.from.now c.to.now
+
+abbrev pub triplets_in : TripletColumns → Triplets
+triplets_in c = triplets_of c.row.now c.col.now c.re.now c.im.now
+
+abbrev pub values_in : ValueColumns → Values
+values_in c = values_of c.g.now c.b.now c.g_fr.now c.b_fr.now c.g_to.now c.b_to.now c.tap.now c.shift.now c.sw.now
+
+abbrev pub network_in : Tables → Network
+network_in t = network_of (buses_in t.buses) (slacks_in t.slacks) (generators_in t.generators) (branches_in t.branches) (triplets_in t.triplets)
+
+abbrev pub branch_table_in : BranchTables → BranchTable
+branch_table_in t = branch_table_of (branches_in t.ends) (values_in t.values)
+
+abbrev pub branch_network_in : BranchTables → BranchNetwork
+branch_network_in t = branch_network_of (buses_in t.buses) (slacks_in t.slacks) (generators_in t.generators) (branch_table_in t)
+
+-- ---- lent for writing
+
+abbrev pub buses_lent : BusColumnsMut → Buses
+buses_lent c = buses_of c.kind.now c.vm_set.now c.pd.now c.qd.now c.pg.now c.qg.now c.vm_case.now c.va_case.now
+
+abbrev pub slacks_lent : SlackColumnsMut → Slacks
+slacks_lent c = slacks_of c.bus.now c.angle.now
+
+abbrev pub generators_lent : GeneratorColumnsMut → Generators
+generators_lent c = generators_of c.bus.now c.qmin.now c.qmax.now
+
+abbrev pub branches_lent : BranchColumnsMut → Branches
+branches_lent c = branches_of c.from.now c.to.now
+
+abbrev pub triplets_lent : TripletColumnsMut → Triplets
+triplets_lent c = triplets_of c.row.now c.col.now c.re.now c.im.now
+
+abbrev pub values_lent : ValueColumnsMut → Values
+values_lent c = values_of c.g.now c.b.now c.g_fr.now c.b_fr.now c.g_to.now c.b_to.now c.tap.now c.shift.now c.sw.now
+
+abbrev pub network_lent : TablesMut → Network
+network_lent t = network_of (buses_lent t.buses) (slacks_lent t.slacks) (generators_lent t.generators) (branches_lent t.branches) (triplets_lent t.triplets)
+
+abbrev pub branch_table_lent : BranchTablesMut → BranchTable
+branch_table_lent t = branch_table_of (branches_lent t.ends) (values_lent t.values)
+
+abbrev pub branch_network_lent : BranchTablesMut → BranchNetwork
+branch_network_lent t = branch_network_of (buses_lent t.buses) (slacks_lent t.slacks) (generators_lent t.generators) (branch_table_lent t)
+
+-- ---- the same columns, whatever they hold now
+
+pub record SameBuses (c d : BusColumnsMut) : Type 0 where
+  pub kind : d.kind.ghost_name ≡ c.kind.ghost_name
+  pub vm_set : d.vm_set.ghost_name ≡ c.vm_set.ghost_name
+  pub pd : d.pd.ghost_name ≡ c.pd.ghost_name
+  pub qd : d.qd.ghost_name ≡ c.qd.ghost_name
+  pub pg : d.pg.ghost_name ≡ c.pg.ghost_name
+  pub qg : d.qg.ghost_name ≡ c.qg.ghost_name
+  pub vm_case : d.vm_case.ghost_name ≡ c.vm_case.ghost_name
+  pub va_case : d.va_case.ghost_name ≡ c.va_case.ghost_name
+
+pub record SameSlacks (c d : SlackColumnsMut) : Type 0 where
+  pub bus : d.bus.ghost_name ≡ c.bus.ghost_name
+  pub angle : d.angle.ghost_name ≡ c.angle.ghost_name
+
+pub record SameGenerators (c d : GeneratorColumnsMut) : Type 0 where
+  pub bus : d.bus.ghost_name ≡ c.bus.ghost_name
+  pub qmin : d.qmin.ghost_name ≡ c.qmin.ghost_name
+  pub qmax : d.qmax.ghost_name ≡ c.qmax.ghost_name
+
+pub record SameBranches (c d : BranchColumnsMut) : Type 0 where
+  pub from : d.from.ghost_name ≡ c.from.ghost_name
+  pub to : d.to.ghost_name ≡ c.to.ghost_name
+
+pub record SameTriplets (c d : TripletColumnsMut) : Type 0 where
+  pub row : d.row.ghost_name ≡ c.row.ghost_name
+  pub col : d.col.ghost_name ≡ c.col.ghost_name
+  pub re : d.re.ghost_name ≡ c.re.ghost_name
+  pub im : d.im.ghost_name ≡ c.im.ghost_name
+
+pub record SameValues (c d : ValueColumnsMut) : Type 0 where
+  pub g : d.g.ghost_name ≡ c.g.ghost_name
+  pub b : d.b.ghost_name ≡ c.b.ghost_name
+  pub g_fr : d.g_fr.ghost_name ≡ c.g_fr.ghost_name
+  pub b_fr : d.b_fr.ghost_name ≡ c.b_fr.ghost_name
+  pub g_to : d.g_to.ghost_name ≡ c.g_to.ghost_name
+  pub b_to : d.b_to.ghost_name ≡ c.b_to.ghost_name
+  pub tap : d.tap.ghost_name ≡ c.tap.ghost_name
+  pub shift : d.shift.ghost_name ≡ c.shift.ghost_name
+  pub sw : d.sw.ghost_name ≡ c.sw.ghost_name
+
+pub record SameTables (t u : TablesMut) : Type 0 where
+  pub buses : SameBuses t.buses u.buses
+  pub slacks : SameSlacks t.slacks u.slacks
+  pub generators : SameGenerators t.generators u.generators
+  pub branches : SameBranches t.branches u.branches
+  pub triplets : SameTriplets t.triplets u.triplets
+
+pub record SameBranchTables (t u : BranchTablesMut) : Type 0 where
+  pub buses : SameBuses t.buses u.buses
+  pub slacks : SameSlacks t.slacks u.slacks
+  pub generators : SameGenerators t.generators u.generators
+  pub ends : SameBranches t.ends u.ends
+  pub values : SameValues t.values u.values
