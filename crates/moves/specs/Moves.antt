@@ -1,6 +1,6 @@
 -- 01, "Limits": what becomes of one bus in a round, and of all of them. Every bus is tested against the figures that Newton's end gives.
 pub mod Laws
-use Rattle.std.specs.Prelude.{ℕ, Bool, true, false, cond, List, eqb, get_or, Float}
+use Rattle.std.specs.Prelude.{ℕ, Bool, true, false, cond, List, get_or, Option, None, Some, Float}
 use Rattle.std.specs.Float.{nan, binary64}
 use Rattle.std.specs.Float.Ieee.{add, sub, lt}
 use Rattle.real.specs.Any.{any_below}
@@ -8,12 +8,15 @@ use Rattle.real.specs.Literals.{nought, margin}
 use Rattle.layout.specs.declared.BusKind.{BusKind}
 use Rattle.layout.specs.declared.BusKind.TheVariants.{Slack, Pv, Pq}
 use Rattle.layout.specs.declared.Limits.{Limits}
+use Rattle.layout.specs.Kinds.{kind_letter}
 use Rattle.layout.specs.Layout.{kind_of}
 use Rattle.layout.specs.Table.{stores, table}
 use Rattle.layout.specs.declared.Point.{Point}
 use Rattle.moves.specs.declared.Move.{Move}
 use Rattle.moves.specs.declared.Move.TheVariants.{Keep, AtMax, AtMin, Revert}
-use Rattle.moves.specs.declared.KindAt.{KindAt}
+use Rattle.moves.specs.declared.Limit.{Limit}
+use Rattle.moves.specs.declared.Limit.TheVariants.{Max, Min}
+use Rattle.moves.specs.declared.Tracked.{Tracked}
 use Rattle.moves.specs.declared.Track.{Track}
 
 -- ---- one bus
@@ -23,12 +26,14 @@ unfoldable pub move_pv : Float → Float → Float → Move
 move_pv q lo hi = cond (lt (add binary64 hi margin) q) AtMax (cond (lt q (sub binary64 lo margin)) AtMin Keep)
 
 -- "A converted bus returns once at most, when its voltage is strictly over 1e-6 past the held value, above for qmax, below for qmin":
--- converted is 1 at qmax, 2 at qmin, 0 where the bus is not converted
-unfoldable pub move_pq : ℕ → Bool → Float → Float → Move
-move_pq converted reverted v hold =
-    cond reverted Keep
-    (cond (eqb converted 1) (cond (lt (add binary64 hold margin) v) Revert Keep)
-    (cond (eqb converted 2) (cond (lt v (sub binary64 hold margin)) Revert Keep) Keep))
+-- `converted` is the limit at which the bus is fixed, None where it is not converted
+abbrev pub could_hold : Option Limit → Float → Float → Bool
+could_hold None v hold = false
+could_hold (Some Max) v hold = lt (add binary64 hold margin) v
+could_hold (Some Min) v hold = lt v (sub binary64 hold margin)
+
+unfoldable pub move_pq : Option Limit → Bool → Float → Float → Move
+move_pq converted reverted v hold = cond reverted Keep (cond (could_hold converted v hold) Revert Keep)
 
 abbrev pub by_kind : BusKind → Move → Move → Move
 by_kind Slack a b = Keep
@@ -36,7 +41,7 @@ by_kind Pv a b = a
 by_kind Pq a b = b
 
 -- only a bus with a generator moves, and no slack
-unfoldable pub move_of : BusKind → Bool → Float → Float → Float → ℕ → Bool → Float → Float → Move
+unfoldable pub move_of : BusKind → Bool → Float → Float → Float → Option Limit → Bool → Float → Float → Move
 move_of k has q lo hi converted reverted v hold = cond has (by_kind k (move_pv q lo hi) (move_pq converted reverted v hold)) Keep
 
 abbrev pub is_move : Move → Bool
@@ -58,11 +63,11 @@ sched_after AtMax s lo hi qg = hi
 sched_after AtMin s lo hi qg = lo
 sched_after Revert s lo hi qg = qg
 
-abbrev pub converted_after : Move → ℕ → ℕ
+abbrev pub converted_after : Move → Option Limit → Option Limit
 converted_after Keep c = c
-converted_after AtMax c = 1
-converted_after AtMin c = 2
-converted_after Revert c = 0
+converted_after AtMax c = Some Max
+converted_after AtMin c = Some Min
+converted_after Revert c = None
 
 abbrev pub reverted_after : Move → Bool → Bool
 reverted_after Keep r = r
@@ -70,17 +75,16 @@ reverted_after AtMax r = r
 reverted_after AtMin r = r
 reverted_after Revert r = true
 
+-- all that changes of a bus beside its kind
+abbrev pub tracked_after : Move → Tracked → Float → Float → Float → Tracked
+tracked_after m t lo hi qg =
+    record { qsched = sched_after m t.qsched lo hi qg; converted = converted_after m t.converted; reverted = reverted_after m t.reverted }
+
 -- the magnitude of a slack or V bus is the held value
 abbrev pub pin_of : BusKind → Float → Float → Float
 pin_of Slack v hold = hold
 pin_of Pv v hold = hold
 pin_of Pq v hold = v
-
--- the kind as its letter's byte: S, V, Q
-abbrev pub kind_letter : BusKind → ℕ
-kind_letter Slack = 83
-kind_letter Pv = 86
-kind_letter Pq = 81
 
 -- ---- all buses
 
@@ -88,7 +92,7 @@ kind_letter Pq = 81
 abbrev pub move_at : List BusKind → Limits → Track → List Float → List Float → List Float → List Float → ℕ → Move
 move_at kinds l t qd q vm hold b =
     move_of (kind_of kinds b) (get_or l.has_gen b false) (add binary64 (get_or q b nan) (get_or qd b nan)) (get_or l.qmin b nan) (get_or l.qmax b nan)
-    (get_or t.converted b 0) (get_or t.reverted b false) (get_or vm b nan) (get_or hold b nan)
+    (get_or t.converted b None) (get_or t.reverted b false) (get_or vm b nan) (get_or hold b nan)
 
 unfoldable pub moves_of : ℕ → List BusKind → Limits → Track → List Float → List Float → List Float → List Float → List Move
 moves_of n kinds l t qd q vm hold = table n Keep (move_at kinds l t qd q vm hold)
@@ -108,7 +112,7 @@ abbrev pub track_to : ℕ → Track → Limits → List Float → List Move → 
 track_to k t l qg ms =
     record {
       qsched = stores (λ b. sched_after (get_or ms b Keep) (get_or t.qsched b nan) (get_or l.qmin b nan) (get_or l.qmax b nan) (get_or qg b nan)) k t.qsched;
-      converted = stores (λ b. converted_after (get_or ms b Keep) (get_or t.converted b 0)) k t.converted;
+      converted = stores (λ b. converted_after (get_or ms b Keep) (get_or t.converted b None)) k t.converted;
       reverted = stores (λ b. reverted_after (get_or ms b Keep) (get_or t.reverted b false)) k t.reverted;
     }
 
@@ -130,14 +134,8 @@ sched_at Pq q = q
 unfoldable pub schedule_of : ℕ → List BusKind → List Float → List Float
 schedule_of n kinds q = table n nought (λ b. sched_at (kind_of kinds b) (get_or q b nan))
 
-abbrev pub as_kind_at : BusKind → KindAt
-as_kind_at k = record { kind = k }
+unfoldable pub kept_kinds : ℕ → List BusKind → List BusKind
+kept_kinds n kinds = table n Slack (kind_of kinds)
 
-unfoldable pub kept_kinds : ℕ → List BusKind → List KindAt
-kept_kinds n kinds = table n (as_kind_at Slack) (λ b. as_kind_at (kind_of kinds b))
-
-abbrev pub kept_kind : List KindAt → ℕ → BusKind
-kept_kind kinds b = (get_or kinds b (as_kind_at Slack)).kind
-
-unfoldable pub letters_of : ℕ → List KindAt → List ℕ
-letters_of n kinds = table n 0 (λ b. kind_letter (kept_kind kinds b))
+unfoldable pub letters_of : ℕ → List BusKind → List ℕ
+letters_of n kinds = table n 0 (λ b. kind_letter (kind_of kinds b))

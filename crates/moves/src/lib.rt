@@ -2,20 +2,14 @@
 #![tactic(auto)]
 
 ghost use Rattle.std.specs.Prelude.{◌≡◌, ◌≤◌, length};
-ghost use Rattle.moves.specs.Moves.{move_pv, move_pq, move_of, is_move, kind_after, sched_after, converted_after, reverted_after, pin_of, sched_at, kind_letter};
+ghost use Rattle.moves.specs.Moves.{move_pv, move_pq, move_of, kind_after, tracked_after, pin_of, sched_at};
 ghost use Rattle.moves.specs.Moves.{moves_of, any_generator, any_move, kinds_after, track_after, pinned, schedule_of, kept_kinds, letters_of};
 
 use layout::{BusKind, Limits, Point};
 use real::{Q_TOL, V_BACK};
 
-// A kind in a struct of its own: a field can be an array of these, and not one of enums.
-#[derive(Clone, Copy)]
-pub struct KindAt {
-    pub kind: BusKind,
-}
-
 // What a bus does after a round: it is kept, converted to Q at a limit, or reverted to V.
-#[derive(Clone, Copy)]
+#[derive(Clone, Copy, Debug, PartialEq, Eq)]
 pub enum Move {
     Keep,
     AtMax,
@@ -23,157 +17,137 @@ pub enum Move {
     Revert,
 }
 
-// What a round changes beside the kinds. converted: 0 not converted, 1 fixed at qmax, 2 fixed at qmin.
+// The limit at which a converted bus is fixed: qmax or qmin.
+#[derive(Clone, Copy, Debug, PartialEq, Eq)]
+pub enum Limit {
+    Max,
+    Min,
+}
+
+// What a round changes beside the kinds: each bus's schedule, the limit at which it is fixed if it is converted, and whether it has been reverted.
 #[derive(Clone, Copy)]
 pub struct Track {
     pub qsched: [f64; 32],
-    pub converted: [u8; 32],
+    pub converted: [Option<Limit>; 32],
     pub reverted: [bool; 32],
 }
 
 // ---- one bus
 
-fn move_pv(q: f64, lo: f64, hi: f64) -> Move
-    ensures { result ≡ move_pv q lo hi }
-{
-    if q > hi + Q_TOL {
-        return Move::AtMax;
-    }
-    if q < lo - Q_TOL {
-        return Move::AtMin;
-    }
-    Move::Keep
-}
-
-// A converted bus that could hold its voltage within the limit is reverted, once at most.
-fn move_pq(converted: u8, reverted: bool, v: f64, hold: f64) -> Move
-    ensures { result ≡ move_pq converted reverted v hold }
-{
-    if reverted {
-        return Move::Keep;
-    }
-    if converted == 1 {
-        if v > hold + V_BACK {
-            return Move::Revert;
-        }
-        return Move::Keep;
-    }
-    if converted == 2 {
-        if v < hold - V_BACK {
-            return Move::Revert;
-        }
-        return Move::Keep;
-    }
-    Move::Keep
-}
-
-fn move_of(
-    k: BusKind,
+// A bus at Newton's end: what it is, its reactive generation and limits, what earlier rounds made of it, its voltage and the one it is to hold.
+#[derive(Clone, Copy)]
+struct BusAtEnd {
+    kind: BusKind,
     has_gen: bool,
     q: f64,
-    lo: f64,
-    hi: f64,
-    converted: u8,
+    qmin: f64,
+    qmax: f64,
+    converted: Option<Limit>,
     reverted: bool,
     v: f64,
     hold: f64,
-) -> Move
-    ensures { result ≡ move_of k has_gen q lo hi converted reverted v hold }
-{
-    if has_gen {
-        match k {
-            BusKind::Slack => Move::Keep,
-            BusKind::Pv => move_pv(q, lo, hi),
-            BusKind::Pq => move_pq(converted, reverted, v, hold),
+}
+
+impl BusAtEnd {
+    #[tactic(auto, unfolding(crate::specs::Moves::move_pv))]
+    fn move_pv(self) -> Move
+        ensures { result ≡ move_pv self.q self.qmin self.qmax }
+    {
+        if self.q > self.qmax + Q_TOL {
+            Move::AtMax
+        } else if self.q < self.qmin - Q_TOL {
+            Move::AtMin
+        } else {
+            Move::Keep
         }
-    } else {
-        Move::Keep
+    }
+
+    // A converted bus that could hold its voltage within the limit is reverted, once at most.
+    #[tactic(auto, unfolding(crate::specs::Moves::move_pq))]
+    fn move_pq(self) -> Move
+        ensures { result ≡ move_pq self.converted self.reverted self.v self.hold }
+    {
+        if self.reverted {
+            return Move::Keep;
+        }
+        let holds = match self.converted {
+            Some(Limit::Max) => self.v > self.hold + V_BACK,
+            Some(Limit::Min) => self.v < self.hold - V_BACK,
+            None => false,
+        };
+        if holds { Move::Revert } else { Move::Keep }
+    }
+
+    #[tactic(auto, unfolding(crate::specs::Moves::move_of))]
+    fn next_move(self) -> Move
+        ensures { result ≡ move_of self.kind self.has_gen self.q self.qmin self.qmax self.converted self.reverted self.v self.hold }
+    {
+        if !self.has_gen {
+            return Move::Keep;
+        }
+        match self.kind {
+            BusKind::Slack => Move::Keep,
+            BusKind::Pv => self.move_pv(),
+            BusKind::Pq => self.move_pq(),
+        }
     }
 }
 
-fn is_move(m: Move) -> bool
-    ensures { result ≡ is_move m }
-{
-    match m {
-        Move::Keep => false,
-        Move::AtMax => true,
-        Move::AtMin => true,
-        Move::Revert => true,
+impl Move {
+    fn kind_after(self, k: BusKind) -> BusKind
+        ensures { result ≡ kind_after self k }
+    {
+        match self {
+            Move::Keep => k,
+            Move::AtMax | Move::AtMin => BusKind::Pq,
+            Move::Revert => BusKind::Pv,
+        }
     }
 }
 
-fn kind_after(m: Move, k: BusKind) -> BusKind
-    ensures { result ≡ kind_after m k }
-{
-    match m {
-        Move::Keep => k,
-        Move::AtMax => BusKind::Pq,
-        Move::AtMin => BusKind::Pq,
-        Move::Revert => BusKind::Pv,
-    }
+// What a round changes of one bus beside its kind.
+#[derive(Clone, Copy)]
+struct Tracked {
+    qsched: f64,
+    converted: Option<Limit>,
+    reverted: bool,
 }
 
-fn sched_after(m: Move, s: f64, lo: f64, hi: f64, qg: f64) -> f64
-    ensures { result ≡ sched_after m s lo hi qg }
-{
-    match m {
-        Move::Keep => s,
-        Move::AtMax => hi,
-        Move::AtMin => lo,
-        Move::Revert => qg,
-    }
-}
-
-fn converted_after(m: Move, c: u8) -> u8
-    ensures { result ≡ converted_after m c }
-{
-    match m {
-        Move::Keep => c,
-        Move::AtMax => 1,
-        Move::AtMin => 2,
-        Move::Revert => 0,
-    }
-}
-
-fn reverted_after(m: Move, r: bool) -> bool
-    ensures { result ≡ reverted_after m r }
-{
-    match m {
-        Move::Keep => r,
-        Move::AtMax => r,
-        Move::AtMin => r,
-        Move::Revert => true,
+impl Tracked {
+    fn after(self, m: Move, qmin: f64, qmax: f64, qg: f64) -> Tracked
+        ensures { result ≡ tracked_after m self qmin qmax qg }
+    {
+        match m {
+            Move::Keep => self,
+            Move::AtMax => Tracked {
+                qsched: qmax,
+                converted: Some(Limit::Max),
+                reverted: self.reverted,
+            },
+            Move::AtMin => Tracked {
+                qsched: qmin,
+                converted: Some(Limit::Min),
+                reverted: self.reverted,
+            },
+            Move::Revert => Tracked {
+                qsched: qg,
+                converted: None,
+                reverted: true,
+            },
+        }
     }
 }
 
 fn pin_of(k: BusKind, v: f64, hold: f64) -> f64
     ensures { result ≡ pin_of k v hold }
 {
-    match k {
-        BusKind::Slack => hold,
-        BusKind::Pv => hold,
-        BusKind::Pq => v,
-    }
+    if k == BusKind::Pq { v } else { hold }
 }
 
 fn sched_at(k: BusKind, q: f64) -> f64
     ensures { result ≡ sched_at k q }
 {
-    match k {
-        BusKind::Slack => 0.0,
-        BusKind::Pv => 0.0,
-        BusKind::Pq => q,
-    }
-}
-
-fn letter_of(k: BusKind) -> u8
-    ensures { result ≡ kind_letter k }
-{
-    match k {
-        BusKind::Slack => b'S',
-        BusKind::Pv => b'V',
-        BusKind::Pq => b'Q',
-    }
+    if k == BusKind::Pq { q } else { 0.0 }
 }
 
 // ---- all buses
@@ -193,20 +167,18 @@ pub fn moves(
 {
     let mut ms = [Move::Keep; 32];
     for b in 0..n {
-        let k = kinds[b];
-        let q = q_calc[b] + qd[b];
-        let m = move_of(
-            k,
-            limits.has_gen[b],
-            q,
-            limits.qmin[b],
-            limits.qmax[b],
-            t.converted[b],
-            t.reverted[b],
-            vm[b],
-            vm_hold[b],
-        );
-        ms[b] = m;
+        let bus = BusAtEnd {
+            kind: kinds[b],
+            has_gen: limits.has_gen[b],
+            q: q_calc[b] + qd[b],
+            qmin: limits.qmin[b],
+            qmax: limits.qmax[b],
+            converted: t.converted[b],
+            reverted: t.reverted[b],
+            v: vm[b],
+            hold: vm_hold[b],
+        };
+        ms[b] = bus.next_move();
     }
     ms
 }
@@ -216,9 +188,8 @@ pub fn any_move(n: usize, ms: [Move; 32]) -> bool
     ensures { result ≡ any_move n ms }
 {
     let mut any = false;
-    for b in 0..n {
-        let m = ms[b];
-        any = real::or(any, is_move(m));
+    for &m in &ms[..n] {
+        any |= m != Move::Keep;
     }
     any
 }
@@ -229,10 +200,7 @@ pub fn kinds_after(n: usize, kinds: [BusKind; 32], ms: [Move; 32]) -> [BusKind; 
 {
     let mut next = kinds;
     for b in 0..n {
-        let m = ms[b];
-        let k = kinds[b];
-        let a = kind_after(m, k);
-        next[b] = a;
+        next[b] = ms[b].kind_after(kinds[b]);
     }
     next
 }
@@ -243,13 +211,15 @@ pub fn track_after(n: usize, t: Track, limits: Limits, qg: [f64; 32], ms: [Move;
 {
     let mut next = t;
     for b in 0..n {
-        let m = ms[b];
-        let s = sched_after(m, t.qsched[b], limits.qmin[b], limits.qmax[b], qg[b]);
-        next.qsched[b] = s;
-        let c = converted_after(m, t.converted[b]);
-        next.converted[b] = c;
-        let r = reverted_after(m, t.reverted[b]);
-        next.reverted[b] = r;
+        let was = Tracked {
+            qsched: t.qsched[b],
+            converted: t.converted[b],
+            reverted: t.reverted[b],
+        };
+        let bus = was.after(ms[b], limits.qmin[b], limits.qmax[b], qg[b]);
+        next.qsched[b] = bus.qsched;
+        next.converted[b] = bus.converted;
+        next.reverted[b] = bus.reverted;
     }
     next
 }
@@ -261,9 +231,7 @@ pub fn pin(n: usize, kinds: [BusKind; 32], vm_hold: [f64; 32], p: Point) -> Poin
 {
     let mut t = p;
     for b in 0..n {
-        let k = kinds[b];
-        let v = pin_of(k, p.vm[b], vm_hold[b]);
-        t.vm[b] = v;
+        t.vm[b] = pin_of(kinds[b], p.vm[b], vm_hold[b]);
     }
     t
 }
@@ -275,35 +243,28 @@ pub fn schedule(n: usize, kinds: [BusKind; 32], qsched: [f64; 32]) -> [f64; 32]
 {
     let mut t = [0.0; 32];
     for b in 0..n {
-        let k = kinds[b];
-        t[b] = sched_at(k, qsched[b]);
+        t[b] = sched_at(kinds[b], qsched[b]);
     }
     t
 }
 
-pub fn kept_kinds(n: usize, kinds: [BusKind; 32]) -> [KindAt; 32]
+// The kinds of the n buses; the places past them are slack.
+pub fn kept_kinds(n: usize, kinds: [BusKind; 32]) -> [BusKind; 32]
     requires { n ≤ 32 }
     ensures { result ≡ kept_kinds n kinds }
 {
-    let mut t = [KindAt {
-        kind: BusKind::Slack,
-    }; 32];
-    for b in 0..n {
-        let kind = kinds[b];
-        t[b] = KindAt { kind };
-    }
+    let mut t = [BusKind::Slack; 32];
+    t[..n].copy_from_slice(&kinds[..n]);
     t
 }
 
-pub fn letters(n: usize, kinds: [KindAt; 32]) -> [u8; 32]
+pub fn letters(n: usize, kinds: [BusKind; 32]) -> [u8; 32]
     requires { n ≤ 32 }
     ensures { result ≡ letters_of n kinds }
 {
     let mut ls = [0u8; 32];
     for b in 0..n {
-        let at = kinds[b];
-        let k = at.kind;
-        ls[b] = letter_of(k);
+        ls[b] = kinds[b].letter();
     }
     ls
 }
@@ -312,9 +273,5 @@ pub fn any_generator(n: usize, has_gen: [bool; 32]) -> bool
     requires { n ≤ 32 }
     ensures { result ≡ any_generator n has_gen }
 {
-    let mut any = false;
-    for b in 0..n {
-        any = real::or(any, has_gen[b]);
-    }
-    any
+    has_gen[..n].contains(&true)
 }

@@ -1,14 +1,16 @@
 -- The laws of `stores` and `table`, over any type of element. Assumes nothing.
-use Prim.Native.Nat.{ℕ, zero, suc, ◌+◌, ◌≤◌, ◌<◌}
-use Rattle.std.specs.Prelude.{◌≡◌, Bool, true, false, cond, List, ◌∷◌, eqb, ltb, length, get_or, set, replicate}
+use Prim.Native.Nat.{ℕ, zero, suc, ◌+◌, ◌-◌, ◌≤◌, ◌<◌}
+use Rattle.std.specs.Prelude.{◌≡◌, Bool, true, false, cond, List, ◌∷◌, ◌++◌, ◌⊎◌, take, drop, eqb, ltb, length, get_or, set, replicate}
 use Rattle.std.proofs.Math.Path.{refl}
-use Rattle.std.proofs.Common.{sym, ap, ◌∙◌, not-suc-le-zero, add-one, arith, eq-eqb, eqb-true, ltb-true, ltb-false, ext_get_or, get_or-set_same}
+use Rattle.std.proofs.Common.{inl, inr, length-append, length-drop, sym, ap, ◌∙◌, not-suc-le-zero, add-one, arith, eq-eqb, eqb-true, ltb-true, ltb-false, ext_get_or, get_or-set_same}
 use Rattle.std.proofs.Math.Logic.{⊎_elim}
 use Rattle.std.proofs.lemmas.Bool.{eqb-false}
 use Rattle.std.proofs.Math.ListN.{length-set}
 use Rattle.std.proofs.lemmas.List.{length-replicate, get_or-replicate}
 use Rattle.std.proofs.Math.Seq.{get_or-set_other}
-use Rattle.real.specs.Tests.{same-or-below}
+use Rattle.std.proofs.lemmas.List.{get_or-take, get_or-drop, get_or-append_right, length-take-le}
+use Rattle.std.proofs.Math.ListN.{get_or-append}
+use Rattle.real.specs.Tests.{same-or-below, below_or}
 use Rattle.layout.specs.Table.{stores, table}
 
 module _ {A : Type 0} where
@@ -76,6 +78,24 @@ module _ {A : Type 0} where
   unfolding stores
   table_same zero z = refl
   table_same (suc k) z = rw (table_same k z) (same_set 32 k z)
+
+-- ---- copies
+
+-- the first places of one list, and the rest of another
+module _ {A : Type 0} (n : ℕ) (l t : List A) (d : A) (long : n ≤ length l) (room : n ≤ length t) where
+  at : (i : ℕ) → (i < n) ⊎ (n ≤ i) → get_or (take n l ++ drop n t) i d ≡ get_or (stores (λ b. get_or l b d) n t) i d
+  at i (inl h) =
+      get_or-append (take n l) (drop n t) d i (rw (length-take-le n l long) h)
+      ∙ get_or-take n l i d h
+      ∙ sym (stores_at (λ b. get_or l b d) n t i d h room)
+  at i (inr h) =
+      get_or-append_right (take n l) (drop n t) n i d (length-take-le n l long) h
+      ∙ get_or-drop n t (i - n) d
+      ∙ ap (λ (k : ℕ). get_or t k d) (omega arith)
+      ∙ sym (stores-past (λ b. get_or l b d) n t i d h)
+
+  pub stored-taken : take n l ++ drop n t ≡ stores (λ b. get_or l b d) n t
+  stored-taken = ext_get_or d _ _ (rw (length-append, length-take-le n l long, length-drop, stores-length) (omega arith)) (λ i h. at i (below_or i n))
 
 -- ---- loops that count
 

@@ -1,19 +1,7 @@
--- `moves::any_generator` meets its contract: whether any bus passed has a generator. Assumes nothing.
-use native.Mathlib.Omega.{arith}
-use native.Mathlib.Numerals.{add-one}
-use borrow.Author.Rules.{rules}
-use Rattle.real.specs.Any.{any_below}
-use Rattle.layout.specs.Table.Laws.{counted-all}
+-- `moves::any_generator` meets its contract: std's answer for the first places is that for the buses. Assumes nothing.
+use Rattle.std.proofs.Common.{false, arith, ◌∙◌}
+use Rattle.moves.proofs.Lists.{any-taken, is-true}
 use Rattle.moves.proofs.any_generator.Goals as goal
 
-pub loop-b-preserved : goal.loop-b-preserved
-unfolding any_below
-loop-b-preserved c = record { within = omega arith; so_far = rw (add-one, ← c.loop-b.invariant.so_far) c.or-any.ensures }
-
 pub returns : goal.returns
-unfolding any_below
-returns c = counted-all c.loop-b.invariant (omega arith)
-
-pub loop-b-init : goal.loop-b-init
-unfolding any_below
-loop-b-init c = search rules
+returns c = c.contains.ensures.value ∙ any-taken _ _ is-true c.args.n c.args.has_gen false (omega arith)

@@ -1,19 +1,11 @@
 -- `moves::any_move` meets its contract: whether any bus passed moves. Assumes nothing.
-use native.Mathlib.Omega.{arith}
-use native.Mathlib.Numerals.{add-one}
-use borrow.Author.Rules.{rules}
-use Rattle.real.specs.Any.{any_below}
-use Rattle.layout.specs.Table.Laws.{counted-all}
+use Rattle.std.proofs.Common.{take, arith, ◌∙◌, refl}
+use Rattle.std.proofs.lemmas.List.{take_all}
+use Rattle.moves.specs.declared.Move.TheVariants.{Keep}
+use Rattle.moves.specs.Moves.{is_move}
+use Rattle.moves.proofs.Lists.{any-taken}
 use Rattle.moves.proofs.any_move.Goals as goal
 
-pub loop-b-preserved : goal.loop-b-preserved
-unfolding any_below
-loop-b-preserved c = record { within = omega arith; so_far = rw (add-one, ← c.loop-b.invariant.so_far, ← c.is_move.ensures) c.or-any.ensures }
-
 pub returns : goal.returns
-unfolding any_below
-returns c = counted-all c.loop-b.invariant (omega arith)
-
-pub loop-b-init : goal.loop-b-init
-unfolding any_below
-loop-b-init c = search rules
+returns c =
+    c.loop-m.invariant ∙ rw (take_all c.loop-m.m-index (take c.args.n c.args.ms) (omega arith)) (any-taken is_move is_move (λ m. refl) c.args.n c.args.ms Keep (omega arith))

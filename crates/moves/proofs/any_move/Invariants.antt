@@ -1,11 +1,8 @@
 -- `moves::any_move` meets its contract: whether any bus passed moves. Assumes nothing.
-use Prim.Native.Nat.{◌-◌}
-use Rattle.layout.specs.Table.Laws.{Counted}
-use Rattle.moves.specs.Moves.{any_move}
+use Rattle.std.proofs.Common.{◌≡◌, take}
+use Rattle.std.specs.List.{list_any}
+use Rattle.moves.specs.Moves.{is_move}
 use Rattle.moves.proofs.any_move.Given as goal
 
-abbrev pub invariant-loop-b : goal.invariant-loop-b
-invariant-loop-b l = Counted (λ i. any_move i l.ms) l.n l.b l.any
-
-abbrev pub decreases-loop-b : goal.decreases-loop-b
-decreases-loop-b l = l.n - l.b
+abbrev pub invariant-loop-m : goal.invariant-loop-m
+invariant-loop-m l = l.any ≡ list_any is_move (take l.m-index l.m-items)

@@ -10,7 +10,7 @@ loop-b-init c = stored-none
 
 pub loop-b-preserved : goal.loop-b-preserved
 unfolding kinds_after
-loop-b-preserved c = stored_next c.loop-b.invariant (omega arith) c.kind_after-a.ensures
+loop-b-preserved c = stored_next c.loop-b.invariant (omega arith) c.kind_after.ensures
 
 pub returns : goal.returns
 unfolding kinds_after

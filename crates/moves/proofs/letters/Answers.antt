@@ -10,7 +10,7 @@ loop-b-init c = stored-none
 
 pub loop-b-preserved : goal.loop-b-preserved
 unfolding letters_of
-loop-b-preserved c = stored_next c.loop-b.invariant (omega arith) c.letter_of.ensures
+loop-b-preserved c = stored_next c.loop-b.invariant (omega arith) c.letter.ensures
 
 pub returns : goal.returns
 unfolding letters_of

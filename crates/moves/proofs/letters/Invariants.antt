@@ -2,11 +2,12 @@
 use Prim.Native.Nat.{◌-◌}
 use lib.ListN.{replicate}
 use Rattle.layout.specs.Table.Laws.{Stored}
-use Rattle.moves.specs.Moves.{kept_kind, kind_letter}
+use Rattle.layout.specs.Layout.{kind_of}
+use Rattle.layout.specs.Kinds.{kind_letter}
 use Rattle.moves.proofs.letters.Given as goal
 
 abbrev pub invariant-loop-b : goal.invariant-loop-b
-invariant-loop-b l = Stored (λ i. kind_letter (kept_kind l.kinds i)) (replicate 32 0) l.n l.b l.ls
+invariant-loop-b l = Stored (λ i. kind_letter (kind_of l.kinds i)) (replicate 32 0) l.n l.b l.ls
 
 abbrev pub decreases-loop-b : goal.decreases-loop-b
 decreases-loop-b l = l.n - l.b

@@ -10,7 +10,7 @@ loop-b-init c = stored-none
 
 pub loop-b-preserved : goal.loop-b-preserved
 unfolding moves_of
-loop-b-preserved c = stored_next c.loop-b.invariant (omega arith) c.move_of-m.ensures
+loop-b-preserved c = stored_next c.loop-b.invariant (omega arith) c.next_move.ensures
 
 pub returns : goal.returns
 unfolding moves_of

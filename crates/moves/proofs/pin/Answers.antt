@@ -9,7 +9,7 @@ use Rattle.moves.proofs.pin.Goals as goal
 
 pub loop-b-preserved : goal.loop-b-preserved
 unfolding stores pinned
-loop-b-preserved c = record { within = omega arith; so_far = rw (add-one, c.loop-b.invariant.so_far, c.pin_of-v.ensures) }
+loop-b-preserved c = record { within = omega arith; so_far = rw (add-one, c.loop-b.invariant.so_far, c.pin_of.ensures) }
 
 pub returns : goal.returns
 unfolding stores pinned

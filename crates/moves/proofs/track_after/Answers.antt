@@ -11,7 +11,7 @@ pub loop-b-preserved : goal.loop-b-preserved
 unfolding stores
 loop-b-preserved c =
     let l = c.loop-b in
-    record { within = omega arith; so_far = rw (add-one, l.invariant.so_far, c.sched_after-s.ensures, c.converted_after-c.ensures, c.reverted_after-r.ensures) }
+    record { within = omega arith; so_far = rw (add-one, l.invariant.so_far, c.after-bus.ensures) }
 
 pub returns : goal.returns
 unfolding stores track_after

@@ -1,6 +1,6 @@
 -- Without a generator no bus moves. Demand 3 at one bus: two studies that differ only in figures withheld there move it alike, and go on differing only there.
 -- Assumes nothing.
-use Rattle.std.specs.Prelude.{ℕ, Bool, false, cond, List, ◌⊎◌, ◌≡◌, eqb, get_or, replicate, Float}
+use Rattle.std.specs.Prelude.{ℕ, Bool, false, cond, List, ◌⊎◌, Option, None, ◌≡◌, get_or, replicate, Float}
 use Rattle.std.proofs.Math.Bool.{true}
 use Rattle.std.proofs.Common.{inl, inr, sym, ◌∙◌}
 use Rattle.std.proofs.Math.Path.{refl}
@@ -13,10 +13,11 @@ use Rattle.layout.specs.declared.BusKind.TheVariants.{Slack, Pv, Pq}
 use Rattle.layout.specs.declared.Limits.{Limits}
 use Rattle.layout.specs.Table.Laws.{stores-ext, table_same}
 use Rattle.layout.specs.Residual.Laws.{NoActive, NoReactive}
+use Rattle.moves.specs.declared.Limit.{Limit}
 use Rattle.moves.specs.declared.Move.{Move}
 use Rattle.moves.specs.declared.Move.TheVariants.{Keep, AtMax, AtMin, Revert}
 use Rattle.moves.specs.declared.Track.{Track}
-use Rattle.moves.specs.Moves.{move_pv, move_pq, move_of, move_at, moves_of, any_generator, kind_after, sched_after, converted_after}
+use Rattle.moves.specs.Moves.{could_hold, move_pv, move_pq, move_of, move_at, moves_of, any_generator, kind_after, sched_after, converted_after}
 
 -- ---- without a generator
 
@@ -33,11 +34,11 @@ abbrev pub NoLimits : BusKind → Type 0
 NoLimits k = (k ≡ Slack) ⊎ (k ≡ Pq)
 
 -- how a bus of kind d at the start stands in some round, of kind k by then: `converted` is c, and x and y are its schedules in the two studies
-pub data Standing : BusKind → BusKind → ℕ → Float → Float → Type 0 where
-  slack : {c : ℕ} {x y : Float} → Standing Slack Slack c x y
-  held : {c : ℕ} {x y : Float} → Standing Pv Pv c x y
-  converted : {c : ℕ} {x y : Float} → x ≡ y → Standing Pv Pq c x y
-  loaded : {x y : Float} → x ≡ y → Standing Pq Pq 0 x y
+pub data Standing : BusKind → BusKind → Option Limit → Float → Float → Type 0 where
+  slack : {c : Option Limit} {x y : Float} → Standing Slack Slack c x y
+  held : {c : Option Limit} {x y : Float} → Standing Pv Pv c x y
+  converted : {c : Option Limit} {x y : Float} → x ≡ y → Standing Pv Pq c x y
+  loaded : {x y : Float} → x ≡ y → Standing Pq Pq None x y
 
 -- ---- what is withheld at another kind is not withheld here
 
@@ -74,21 +75,18 @@ module _ (P : Move → Type 0) where
   three true false true x y z = y
   three true false false x y z = z
 
-  two : (has r max min a b : Bool) → P Revert → P Keep → P (cond has (cond r Keep (cond max (cond a Revert Keep) (cond min (cond b Revert Keep) Keep))) Keep)
-  two false r max min a b x z = z
-  two true true max min a b x z = z
-  two true false true min true b x z = x
-  two true false true min false b x z = z
-  two true false false true a true x z = x
-  two true false false true a false x z = z
-  two true false false false a b x z = z
+  two : (has r a : Bool) → P Revert → P Keep → P (cond has (cond r Keep (cond a Revert Keep)) Keep)
+  two false r a x z = z
+  two true true a x z = z
+  two true false true x z = x
+  two true false false x z = z
 
 -- how a bus stands after a move, between the limits and with the first schedules of the two studies
-abbrev pub After : (lo lo' hi hi' qg qg' : Float) → BusKind → BusKind → ℕ → Float → Float → Move → Type 0
+abbrev pub After : (lo lo' hi hi' qg qg' : Float) → BusKind → BusKind → Option Limit → Float → Float → Move → Type 0
 After lo lo' hi hi' qg qg' d k c x y m = Standing d (kind_after m k) (converted_after m c) (sched_after m x lo hi qg) (sched_after m y lo' hi' qg')
 
 module _ (has r : Bool) (q lo lo' hi hi' v hold : Float) where
-  pub move-alike : (q' : Float) {d k : BusKind} {c : ℕ} {x y : Float} → Standing d k c x y → NoActive d ⊎ (q ≡ q') → NoLimits d ⊎ ((lo ≡ lo') × (hi ≡ hi'))
+  pub move-alike : (q' : Float) {d k : BusKind} {c : Option Limit} {x y : Float} → Standing d k c x y → NoActive d ⊎ (q ≡ q') → NoLimits d ⊎ ((lo ≡ lo') × (hi ≡ hi'))
       → move_of k has q lo hi c r v hold ≡ move_of k has q' lo' hi' c r v hold
   unfolding move_of move_pq
   move-alike q' slack eq el = refl
@@ -97,15 +95,15 @@ module _ (has r : Bool) (q lo lo' hi hi' v hold : Float) where
   move-alike q' (loaded e) eq el = refl
 
   module _ (qg qg' : Float) where
-    abbrev Next : BusKind → BusKind → ℕ → Float → Float → Move → Type 0
+    abbrev Next : BusKind → BusKind → Option Limit → Float → Float → Move → Type 0
     Next = After lo lo' hi hi' qg qg'
 
-    pub standing_on : {d k : BusKind} {c : ℕ} {x y : Float} → Standing d k c x y → NoLimits d ⊎ ((lo ≡ lo') × (hi ≡ hi'))
+    pub standing_on : {d k : BusKind} {c : Option Limit} {x y : Float} → Standing d k c x y → NoLimits d ⊎ ((lo ≡ lo') × (hi ≡ hi'))
         → Next d k c x y (move_of k has q lo hi c r v hold)
     unfolding move_of move_pv move_pq
     standing_on {x = x} {y = y} (slack {c = c}) el = none (Next Slack Slack c x y) has true slack
     standing_on {c = c} {x = x} {y = y} held el =
         three (Next Pv Pv c x y) has (lt (add binary64 hi margin) q) (lt q (sub binary64 lo margin)) (converted (limits-v el).1) (converted (limits-v el).0) held
     standing_on {c = c} {x = x} {y = y} (converted e) el =
-        two (Next Pv Pq c x y) has r (eqb c 1) (eqb c 2) (lt (add binary64 hold margin) v) (lt v (sub binary64 hold margin)) held (converted e)
-    standing_on {x = x} {y = y} (loaded e) el = none (Next Pq Pq 0 x y) has r (loaded e)
+        two (Next Pv Pq c x y) has r (could_hold c v hold) held (converted e)
+    standing_on {x = x} {y = y} (loaded e) el = none (Next Pq Pq None x y) has r (loaded e)
