@@ -10,6 +10,8 @@ ghost use Rattle.layout.specs.Residual.{powers_in, missing, at_row, residual_of}
 ghost use Rattle.layout.specs.Limits.{limits_of};
 ghost use Rattle.layout.specs.declared.BusKind.TheVariants.{Pq};
 
+use network::GeneratorColumns;
+
 // Bus role in the power flow: the reference slack, a voltage-regulating generator bus, or a load bus.
 #[derive(Clone, Copy, Debug, PartialEq, Eq)]
 pub enum BusKind {
@@ -62,6 +64,18 @@ pub struct Limits {
     pub qmin: [f64; 32],
     pub qmax: [f64; 32],
     pub has_gen: [bool; 32],
+}
+
+// ---- tables
+
+// The first n places of a list in a table, and z past them.
+pub fn column<T: Copy>(n: usize, z: T, l: &[T]) -> [T; 32]
+    requires { (n ≤ 32) × (n ≤ length l.now) }
+    ensures { (d : T) → result ≡ table n z (λ b. get_or l.now b d) }
+{
+    let mut t = [z; 32];
+    t[..n].copy_from_slice(&l[..n]);
+    t
 }
 
 // ---- kinds
@@ -270,22 +284,22 @@ impl AcPfLayout {
 // ---- limits
 
 // The limits of all generators at a bus, summed in generator order.
-pub fn aggregate_q(gen_bus: &[usize], qmin: &[f64], qmax: &[f64]) -> Limits
-    requires { (length qmin.now ≡ length gen_bus.now) × (length qmax.now ≡ length gen_bus.now) × Below 32 gen_bus.now }
-    ensures { result ≡ limits_of gen_bus.now qmin.now qmax.now }
+pub fn aggregate_q(gens: GeneratorColumns) -> Limits
+    requires { (length gens.qmin.now ≡ length gens.bus.now) × (length gens.qmax.now ≡ length gens.bus.now) × Below 32 gens.bus.now }
+    ensures { result ≡ limits_of gens.entry.bus.now gens.entry.qmin.now gens.entry.qmax.now }
 {
-    let mut qmin_bus = [0.0; 32];
-    let mut qmax_bus = [0.0; 32];
+    let mut qmin = [0.0; 32];
+    let mut qmax = [0.0; 32];
     let mut has_gen = [false; 32];
-    for g in 0..gen_bus.len() {
-        let b = gen_bus[g];
-        qmin_bus[b] += qmin[g];
-        qmax_bus[b] += qmax[g];
+    for g in 0..gens.bus.len() {
+        let b = gens.bus[g];
+        qmin[b] += gens.qmin[g];
+        qmax[b] += gens.qmax[g];
         has_gen[b] = true;
     }
     Limits {
-        qmin: qmin_bus,
-        qmax: qmax_bus,
+        qmin,
+        qmax,
         has_gen,
     }
 }

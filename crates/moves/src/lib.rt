@@ -253,9 +253,7 @@ pub fn kept_kinds(n: usize, kinds: [BusKind; 32]) -> [BusKind; 32]
     requires { n ≤ 32 }
     ensures { result ≡ kept_kinds n kinds }
 {
-    let mut t = [BusKind::Slack; 32];
-    t[..n].copy_from_slice(&kinds[..n]);
-    t
+    layout::column(n, BusKind::Slack, &kinds)
 }
 
 pub fn letters(n: usize, kinds: [BusKind; 32]) -> [u8; 32]

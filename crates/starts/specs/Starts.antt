@@ -1,6 +1,6 @@
 -- 01, "Starts" and "References": the case start, the flat start and its four perturbations.
 pub mod Laws
-use Rattle.std.specs.Prelude.{ℕ, zero, suc, ◌+◌, cond, List, ltb, get_or, Float}
+use Rattle.std.specs.Prelude.{ℕ, zero, suc, ◌+◌, cond, List, get_or, Option, None, Some, Float}
 use Rattle.std.specs.Float.{nan, binary64}
 use Rattle.std.specs.Float.Ieee.{add, sub, mul, lt}
 use Rattle.std.specs.Float.Ieee.Scale.{finite}
@@ -12,7 +12,6 @@ use Rattle.layout.specs.declared.Point.{Point}
 use Rattle.layout.specs.Layout.{kind_of}
 use Rattle.layout.specs.Table.{table}
 use Rattle.starts.specs.declared.References.{References}
-use Rattle.starts.specs.References.{no_slack}
 
 -- ---- the case start
 
@@ -25,9 +24,10 @@ unfoldable pub magnitude_for : Float → Float → Float
 magnitude_for stored set = cond (finite stored) (cond (lt nought stored) stored set) set
 
 -- the stored angle of the island's slack; 0.0 where there is none
-unfoldable pub slack_angle : List Float → ℕ → Float
+unfoldable pub slack_angle : List Float → Option ℕ → Float
 unfolding finite_or
-slack_angle angles s = cond (ltb s no_slack) (finite_or (get_or angles s nan)) nought
+slack_angle angles None = nought
+slack_angle angles (Some s) = finite_or (get_or angles s nan)
 
 -- "Its angles add to the reference the stored angle less the slack's"
 unfoldable pub angle_for : Float → Float → Float → Float
@@ -38,7 +38,7 @@ abbrev pub case_vm : List Float → List Float → ℕ → Float
 case_vm set stored b = magnitude_for (get_or stored b nan) (get_or set b nan)
 
 abbrev pub case_va : List Float → References → ℕ → Float
-case_va stored r b = angle_for (get_or r.va b nan) (get_or stored b nan) (slack_angle stored (get_or r.slack b 0))
+case_va stored r b = angle_for (get_or r.va b nan) (get_or stored b nan) (slack_angle stored (get_or r.slack b None))
 
 unfoldable pub case_of : ℕ → List Float → List Float → List Float → References → Point
 unfolding magnitude_for angle_for slack_angle

@@ -6,7 +6,7 @@ use Rattle.starts.specs.References.Laws.{rows-begin, rows_more}
 use Rattle.starts.proofs.by_island.Goals as goal
 
 pub loop-i-init : goal.loop-i-init
-loop-i-init c = let a = c.args in (omega arith, refl, rows-begin a.slacks.now a.labels _ _, rows-begin a.slacks.now a.labels _ _)
+loop-i-init c = let a = c.args in (omega arith, refl, rows-begin a.slacks.bus.now a.labels _ _, rows-begin a.slacks.bus.now a.labels _ _)
 
 pub offset_bounds-labels-bus : goal.offset_bounds-labels-bus
 offset_bounds-labels-bus c = omega (arith, (c.requires.1 c.loop-i.i (omega arith)))
@@ -32,12 +32,12 @@ loop-i-preserved c =
     let a = c.args in (
       omega arith,
       l.invariant.1,
-      rw l.invariant.2 (rows_more a.slacks.now a.labels _ _ l.i (c.requires.2 c.loop-i.i (omega arith))),
-      rw l.invariant.3 (rows_more a.slacks.now a.labels _ _ l.i (c.requires.2 c.loop-i.i (omega arith))),
+      rw l.invariant.2 (rows_more a.slacks.bus.now a.labels _ _ l.i (c.requires.2 c.loop-i.i (omega arith))),
+      rw l.invariant.3 (rows_more a.slacks.bus.now a.labels _ _ l.i (c.requires.2 c.loop-i.i (omega arith))),
     )
 
 pub returns : goal.returns
 returns c =
     let l = c.loop-i in
-    let e : l.i ≡ length c.args.slacks.now = omega arith in
+    let e : l.i ≡ length c.args.slacks.bus.now = omega arith in
     rw (l.invariant.2, l.invariant.3, e)

@@ -6,7 +6,7 @@ use Rattle.starts.proofs.case_start.Goals as goal
 
 pub slack_angle-s-requires : goal.slack_angle-s-requires
 slack_angle-s-requires c =
-    λ h. let k = c.requires.4 c.loop-b.b (omega arith) h in omega arith
+    λ s h. let k = c.requires.4 c.loop-b.b s (omega arith) h in omega arith
 
 pub loop-b-preserved : goal.loop-b-preserved
 loop-b-preserved c =

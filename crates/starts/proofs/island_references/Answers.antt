@@ -5,6 +5,7 @@ use native.Mathlib.Numerals.{add-one}
 use borrow.Author.Rules.{rules}
 use lib.ListN.{get_or, set}
 use lib.Ieee.{nan}
+use Rattle.std.specs.Prelude.{None}
 use Rattle.layout.specs.Table.{stores}
 use Rattle.starts.specs.declared.References.{References}
 use Rattle.starts.specs.References.{references_of}
@@ -16,7 +17,7 @@ by_island-island-requires c = (
   c.requires.1,
   λ i h. let k = c.requires.2 i h in omega arith,
   λ i h. (let a = c.args in
-      label_small a.n a.slacks.now a.br_from.now a.br_to.now c.dense_islands-labels.result c.requires.0 c.requires.2 c.dense_islands-labels.ensures _ (c.requires.2 i h)),
+      label_small a.n a.slacks.bus.now a.branches.from.now a.branches.to.now c.dense_islands-labels.result c.requires.0 c.requires.2 c.dense_islands-labels.ensures _ (c.requires.2 i h)),
 )
 
 pub loop-b-init : goal.loop-b-init
@@ -27,28 +28,28 @@ pub offset_bounds-island-l : goal.offset_bounds-island-l
 offset_bounds-island-l c = omega (
   arith,
   ((let a = c.args in
-      label_small a.n a.slacks.now a.br_from.now a.br_to.now c.dense_islands-labels.result c.requires.0 c.requires.2 c.dense_islands-labels.ensures c.loop-b.b (omega arith))),
+      label_small a.n a.slacks.bus.now a.branches.from.now a.branches.to.now c.dense_islands-labels.result c.requires.0 c.requires.2 c.dense_islands-labels.ensures c.loop-b.b (omega arith))),
 )
 
 pub bounds-island-l : goal.bounds-island-l
 bounds-island-l c = omega (
   arith,
   ((let a = c.args in
-      label_small a.n a.slacks.now a.br_from.now a.br_to.now c.dense_islands-labels.result c.requires.0 c.requires.2 c.dense_islands-labels.ensures c.loop-b.b (omega arith))),
+      label_small a.n a.slacks.bus.now a.branches.from.now a.branches.to.now c.dense_islands-labels.result c.requires.0 c.requires.2 c.dense_islands-labels.ensures c.loop-b.b (omega arith))),
 )
 
 pub offset_bounds-island-l-in-loop-b : goal.offset_bounds-island-l-in-loop-b
 offset_bounds-island-l-in-loop-b c = omega (
   arith,
   ((let a = c.args in
-      label_small a.n a.slacks.now a.br_from.now a.br_to.now c.dense_islands-labels.result c.requires.0 c.requires.2 c.dense_islands-labels.ensures c.loop-b.b (omega arith))),
+      label_small a.n a.slacks.bus.now a.branches.from.now a.branches.to.now c.dense_islands-labels.result c.requires.0 c.requires.2 c.dense_islands-labels.ensures c.loop-b.b (omega arith))),
 )
 
 pub bounds-island-l-in-loop-b : goal.bounds-island-l-in-loop-b
 bounds-island-l-in-loop-b c = omega (
   arith,
   ((let a = c.args in
-      label_small a.n a.slacks.now a.br_from.now a.br_to.now c.dense_islands-labels.result c.requires.0 c.requires.2 c.dense_islands-labels.ensures c.loop-b.b (omega arith))),
+      label_small a.n a.slacks.bus.now a.branches.from.now a.branches.to.now c.dense_islands-labels.result c.requires.0 c.requires.2 c.dense_islands-labels.ensures c.loop-b.b (omega arith))),
 )
 
 pub loop-b-preserved : goal.loop-b-preserved
@@ -58,8 +59,8 @@ loop-b-preserved c =
     let by = c.by_island-island.ensures in
     let at = get_or c.dense_islands-labels.result l.b 0 in (
       omega arith,
-      rw (add-one, ← l.invariant.1) (ap (set l.slack l.b) (ap (λ (r : References). get_or r.slack at 0) by ∙ row_at c.args.n c.args.slacks.now c.args.br_from.now c.args.br_to.now c.dense_islands-labels.result c.requires.0 c.requires.2 c.dense_islands-labels.ensures _ _ _ l.b (omega arith))),
-      rw (add-one, ← l.invariant.2) (ap (set l.va l.b) (ap (λ (r : References). get_or r.va at nan) by ∙ row_at c.args.n c.args.slacks.now c.args.br_from.now c.args.br_to.now c.dense_islands-labels.result c.requires.0 c.requires.2 c.dense_islands-labels.ensures _ _ _ l.b (omega arith))),
+      rw (add-one, ← l.invariant.1) (ap (set l.slack l.b) (ap (λ (r : References). get_or r.slack at None) by ∙ row_at c.args.n c.args.slacks.bus.now c.args.branches.from.now c.args.branches.to.now c.dense_islands-labels.result c.requires.0 c.requires.2 c.dense_islands-labels.ensures _ _ _ l.b (omega arith))),
+      rw (add-one, ← l.invariant.2) (ap (set l.va l.b) (ap (λ (r : References). get_or r.va at nan) by ∙ row_at c.args.n c.args.slacks.bus.now c.args.branches.from.now c.args.branches.to.now c.dense_islands-labels.result c.requires.0 c.requires.2 c.dense_islands-labels.ensures _ _ _ l.b (omega arith))),
     )
 
 pub returns : goal.returns

@@ -1,15 +1,16 @@
 -- The references as loops make them, by island and then by bus; and what they are. Assumes nothing.
-use Rattle.std.specs.Prelude.{ℕ, zero, suc, ◌+◌, ◌≤◌, ◌<◌, ◌≡◌, refl, Bool, true, false, cond, List, eqb, length, get_or, set, replicate, Float}
+use Rattle.std.specs.Prelude.{ℕ, zero, suc, ◌+◌, ◌≤◌, ◌<◌, ◌≡◌, refl, Bool, true, false, cond, List, eqb, length, get_or, set, replicate, Float, None, Some}
 use Rattle.std.proofs.Math.Path.{sym}
 use Rattle.std.proofs.Common.{ap, ◌∙◌, le_refl, arith}
 use Rattle.std.proofs.Math.Numerals.{add-one}
+use Rattle.real.specs.Tests.{no-case}
 use Rattle.network.specs.Below.{Below}
 use Rattle.layout.specs.Table.{table}
 use Rattle.layout.specs.Table.Laws.{table_at, table-set, stores-ext, table_same}
 use Rattle.islands.specs.Islands.{label_of, labels_of, label_table}
 use Rattle.islands.specs.Islands.Laws.{labels-le}
 use Rattle.islands.specs.Islands.Laws as Islands
-use Rattle.starts.specs.References.{no_slack, later_row, slack_of, slack_for, references_of, SlacksBelow}
+use Rattle.starts.specs.References.{later_row, slack_of, slack_for, references_of, SlacksBelow}
 
 -- ---- row by row, for any value of a row
 
@@ -53,18 +54,17 @@ module _ (n : ℕ) (slacks : List ℕ) (from to labels : List ℕ) (few : n ≤ 
 
 -- ---- a slack is one of the rows'
 
-one_of : (k n : ℕ) (slacks : List ℕ) (label : ℕ → ℕ) (l : ℕ) → ((i : ℕ) → i < k → get_or slacks i 0 < n) → slack_of k slacks label l < 32 → slack_of k slacks label l < n
+one_of : (k n : ℕ) (slacks : List ℕ) (label : ℕ → ℕ) (l s : ℕ) → ((i : ℕ) → i < k → get_or slacks i 0 < n) → slack_of k slacks label l ≡ Some s → s < n
 unfolding later_row
-one_of zero n slacks label l h p = absurd (omega arith)
-one_of (suc k) n slacks label l h p = go (eqb l (label (get_or slacks k 0))) p (one_of k n slacks label l (λ i q. h i (omega arith)))
+one_of zero n slacks label l s h p = no-case cc
+one_of (suc k) n slacks label l s h p = go (eqb l (label (get_or slacks k 0))) p (one_of k n slacks label l s (λ i q. h i (omega arith)))
   where
-    go : (t : Bool) → cond t (get_or slacks k 0) (slack_of k slacks label l) < 32 → (slack_of k slacks label l < 32 → slack_of k slacks label l < n)
-        → cond t (get_or slacks k 0) (slack_of k slacks label l) < n
-    go true q r = h k (omega arith)
+    go : (t : Bool) → cond t (Some (get_or slacks k 0)) (slack_of k slacks label l) ≡ Some s → (slack_of k slacks label l ≡ Some s → s < n) → s < n
+    go true q r = let e : get_or slacks k 0 ≡ s = cc in omega (arith, h k (omega arith))
     go false q r = r q
 
 pub references-slacks : (n : ℕ) (slacks : List ℕ) (angles : List Float) (from to : List ℕ) → n ≤ 32 → Below n slacks
     → SlacksBelow n (references_of n slacks angles from to)
 unfolding references_of
-references-slacks n slacks angles from to few below b h =
-    rw (table_at n no_slack (slack_for slacks from to) b 0 h few) (one_of (length slacks) n slacks (label_of from to) (label_of from to b) below)
+references-slacks n slacks angles from to few below b s h e =
+    one_of (length slacks) n slacks (label_of from to) (label_of from to b) s below (sym (table_at n None (slack_for slacks from to) b None h few) ∙ e)
