@@ -68,8 +68,8 @@ fn currents(n: usize, y: TripletColumns, v: [Complex; 32]) -> [Complex; 32]
     for t in 0..y.row.len() {
         let b = bus(y.row, t, n);
         let k = bus(y.col, t, n);
-        let x = Complex::new(y.re[t], y.im[t]).product(v[k]);
-        i[b] = i[b].sum(x);
+        let x = Complex::new(y.re[t], y.im[t]) * v[k];
+        i[b] = i[b] + x;
     }
     i
 }
@@ -93,7 +93,7 @@ pub fn bus_powers(n: usize, s: Phasors) -> Injected
     let mut q = [0.0; 32];
     for b in 0..n {
         let against = s.i[b].conjugate();
-        let x = s.v[b].product(against);
+        let x = s.v[b] * against;
         p[b] = x.re;
         q[b] = x.im;
     }
@@ -115,16 +115,16 @@ pub fn ac_injections(n: usize, y: TripletColumns, p: Point) -> Injections
 fn angle_on_diagonal(y: Complex, v: Complex, c: Complex) -> Complex
     ensures { result ≡ angle_on y v c }
 {
-    let against = c.difference(y.product(v)).conjugate();
-    Complex::I.product(v).product(against)
+    let against = (c - y * v).conjugate();
+    Complex::I * v * against
 }
 
 // v is the voltage at the triplet's row, vk that at its column.
 fn angle_off_diagonal(y: Complex, v: Complex, vk: Complex) -> Complex
     ensures { result ≡ angle_off y v vk }
 {
-    let against = y.product(vk).conjugate();
-    Complex::I.negation().product(v).product(against)
+    let against = (y * vk).conjugate();
+    -Complex::I * v * against
 }
 
 // By a magnitude: u is the voltage of magnitude one at the triplet's column.
@@ -133,7 +133,7 @@ fn magnitude_part(y: Complex, v: Complex, u: Complex) -> Complex
 {
     let y_conj = y.conjugate();
     let u_conj = u.conjugate();
-    v.product(y_conj).product(u_conj)
+    v * y_conj * u_conj
 }
 
 fn on_diagonal(y: Complex, v: Complex, c: Complex, u: Complex) -> Derivatives
@@ -141,7 +141,7 @@ fn on_diagonal(y: Complex, v: Complex, c: Complex, u: Complex) -> Derivatives
 {
     let dva = angle_on_diagonal(y, v, c);
     let own = magnitude_part(y, v, u);
-    let dvm = own.sum(c.conjugate().product(u));
+    let dvm = own + c.conjugate() * u;
     Derivatives { dva, dvm }
 }
 

@@ -74,10 +74,10 @@ pub fn branch_admittance(x: Branch) -> Admittance
     let y_fr = Complex::new(x.g_fr, x.b_fr);
     let y_to = Complex::new(x.g_to, x.b_to);
     let against = t.conjugate();
-    let ff = y.sum(y_fr).divided(x.tap * x.tap).scaled(x.sw);
-    let ft = y.negation().quotient(against).scaled(x.sw);
-    let tf = y.negation().quotient(t).scaled(x.sw);
-    let tt = y.sum(y_to).scaled(x.sw);
+    let ff = (y + y_fr) / (x.tap * x.tap) * x.sw;
+    let ft = -y / against * x.sw;
+    let tf = -y / t * x.sw;
+    let tt = (y + y_to) * x.sw;
     Admittance { ff, ft, tf, tt }
 }
 
@@ -129,8 +129,8 @@ fn diagonals(ends: BranchColumns, y: [Admittance; 64]) -> [Complex; 32]
     for e in 0..ends.from.len() {
         let i = ends.from[e];
         let k = ends.to[e];
-        d[i] = d[i].sum(y[e].ff);
-        d[k] = d[k].sum(y[e].tt);
+        d[i] = d[i] + y[e].ff;
+        d[k] = d[k] + y[e].tt;
     }
     d
 }

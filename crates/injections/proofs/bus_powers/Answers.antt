@@ -8,8 +8,8 @@ pub loop-b-preserved : goal.loop-b-preserved
 loop-b-preserved c =
     let against = c.conjugate-against.ensures in
     let l = c.loop-b in (
-      stored_next l.invariant.0 (omega arith) (rw (c.product-x.ensures, against)),
-      stored_next l.invariant.1 (omega arith) (rw (c.product-x.ensures, against)),
+      stored_next l.invariant.0 (omega arith) (rw (c.mul-x.ensures, against)),
+      stored_next l.invariant.1 (omega arith) (rw (c.mul-x.ensures, against)),
     )
 
 pub loop-b-init : goal.loop-b-init

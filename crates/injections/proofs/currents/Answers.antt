@@ -22,7 +22,7 @@ loop-t-preserved c =
     let l = c.loop-t in (
       omega arith,
       l.invariant.1,
-      rw (add-one, currents-turn, ← l.invariant.2, ← c.bus-b.ensures.0, ← c.bus-k.ensures.0, c.sum.ensures, c.product-x.ensures, c.new.ensures),
+      rw (add-one, currents-turn, ← l.invariant.2, ← c.bus-b.ensures.0, ← c.bus-k.ensures.0, c.add.ensures, c.mul-x.ensures, c.new.ensures),
     )
 
 pub returns : goal.returns

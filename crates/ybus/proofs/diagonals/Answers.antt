@@ -15,9 +15,9 @@ loop-e-preserved c =
     let from = get_or a.ends.from.now l.e 0 in (
       omega arith,
       refl,
-      sums-turn (branches_in a.ends) a.y l.e (c.requires.1 l.e (omega arith)) (c.requires.2 l.e (omega arith)) l.d (set l.d from c.sum.result) _ l.invariant.2
-          (rw c.sum.ensures)
-          (rw c.sum-in-loop-e.ensures),
+      sums-turn (branches_in a.ends) a.y l.e (c.requires.1 l.e (omega arith)) (c.requires.2 l.e (omega arith)) l.d (set l.d from c.add.result) _ l.invariant.2
+          (rw c.add.ensures)
+          (rw c.add-in-loop-e.ensures),
     )
 
 pub returns : goal.returns
