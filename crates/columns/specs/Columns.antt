@@ -18,14 +18,24 @@ cell_of j l = get_or (pieces 32 l) (j + 1) []
 
 -- the three kinds of column: reals by a digit rule (`?` is no other real, so it is read the same way wherever it is allowed), bus numbers, and a kind
 -- as its letter's byte
+abbrev pub real_value_by : DigitRule → List ℕ → Float
+real_value_by rule f = real_in (or_nan_by rule f)
+
+abbrev pub number_value : List ℕ → ℕ
+number_value f = number_in (bus_of f)
+
+abbrev pub kind_value : List ℕ → ℕ
+kind_value f = get_or f 0 0
+
+-- field j of a line as each of these
 abbrev pub real_field_by : DigitRule → ℕ → List ℕ → Float
-real_field_by rule j r = real_in (or_nan_by rule (cell_of j r))
+real_field_by rule j r = real_value_by rule (cell_of j r)
 
 abbrev pub number_field : ℕ → List ℕ → ℕ
-number_field j r = number_in (bus_of (cell_of j r))
+number_field j r = number_value (cell_of j r)
 
 abbrev pub kind_field : ℕ → List ℕ → ℕ
-kind_field j r = get_or (cell_of j r) 0 0
+kind_field j r = kind_value (cell_of j r)
 
 -- what f says of each row of a section's bytes
 abbrev pub column_of : {A : Type 0} → (List ℕ → A) → List ℕ → List A
@@ -64,6 +74,9 @@ module _ (rule : DigitRule) where
       (values_of (real 2 v.g) (real 3 v.b) (real 4 v.g_fr) (real 5 v.b_fr) (real 6 v.g_to) (real 7 v.b_to) (real 8 v.tap) (real 9 v.shift) (real 10 v.sw))
 
 -- ---- by 02's digit rule
+
+abbrev pub real_value : List ℕ → Float
+real_value = real_value_by allowed
 
 abbrev pub real_field : ℕ → List ℕ → Float
 real_field = real_field_by allowed

@@ -2,13 +2,13 @@
 // a column has a place for each of its rows.
 #![tactic(auto)]
 
-ghost use Rattle.std.specs.Prelude.{◌≡◌, ◌+◌, ◌≤◌, ◌<◌, [], length, get_or};
+ghost use Rattle.std.specs.Prelude.{◌≡◌, ℕ, ◌+◌, ◌≤◌, ◌<◌, List, [], length, get_or};
 ghost use Rattle.std.proofs.Math.Seq.{slice};
 ghost use Rattle.fields.specs.Cut.{pieces};
 ghost use Rattle.network.specs.Network.{Buses, Slacks, Generators, Branches, Triplets, buses_of, slacks_of, generators_of, branches_of, triplets_of};
 ghost use Rattle.network.specs.BranchTable.{BranchTable, values_of, branch_table_of, RoomBranchTable};
 ghost use Rattle.network.specs.Network.{RoomBuses, RoomSlacks, RoomGenerators, RoomBranches, RoomTriplets};
-ghost use Rattle.columns.specs.Columns.{row_count, filled, real_field, number_field, kind_field};
+ghost use Rattle.columns.specs.Columns.{row_count, cell_of, filled, real_value, number_value, kind_value, real_field, number_field, kind_field};
 ghost use Rattle.columns.specs.Columns.{filled_buses, filled_slacks, filled_generators, filled_branches, filled_triplets, filled_branch_table};
 
 // A part of the text.
@@ -24,103 +24,79 @@ fn piece(s: &[u8], a: usize, e: usize, n: usize) -> Part
     ensures { (result.from ≤ result.to) × (result.to ≤ e) × (slice result.from result.to s.now ≡ get_or (pieces 32 (slice a e s.now)) n []) }
 {
     let mut i = a;
-    let mut k = n;
-    loop {
+    for _k in 0..n {
         let q = fields::find(s, i, e, b' ');
-        if k == 0 {
-            return Part { from: i, to: q };
-        }
         if q == e {
             return Part { from: e, to: e };
         }
         i = q + 1;
-        k -= 1;
+    }
+    Part {
+        from: i,
+        to: fields::find(s, i, e, b' '),
     }
 }
 
-fn real_at(s: &[u8], a: usize, e: usize, j: usize) -> f64
-    requires { (a ≤ e) × (e ≤ length s.now) × (j < 16) }
-    ensures { result ≡ real_field j (slice a e s.now) }
-{
-    let c = piece(s, a, e, j + 1);
-    let from = c.from;
-    let to = c.to;
-    fields::real_in(fields::real_or_nan(s, from, to))
+// What a column holds: the value of a field that was found good.
+trait Cell: Copy {
+    // Of the field's bytes.
+    ghost value: { List ℕ → Self };
+
+    fn read(s: &[u8], a: usize, e: usize) -> Self
+        requires { (a ≤ e) × (e ≤ length s.now) }
+        ensures { result ≡ value (slice a e s.now) };
 }
 
-fn number_at(s: &[u8], a: usize, e: usize, j: usize) -> usize
-    requires { (a ≤ e) × (e ≤ length s.now) × (j < 16) }
-    ensures { result ≡ number_field j (slice a e s.now) }
-{
-    let c = piece(s, a, e, j + 1);
-    let from = c.from;
-    let to = c.to;
-    fields::number_in(fields::read_bus(s, from, to))
-}
+// A real, or `?`.
+impl Cell for f64 {
+    ghost value = { real_value };
 
-fn kind_at(s: &[u8], a: usize, e: usize, j: usize) -> u8
-    requires { (a ≤ e) × (e ≤ length s.now) × (j < 16) }
-    ensures { result ≡ kind_field j (slice a e s.now) }
-{
-    let c = piece(s, a, e, j + 1);
-    let from = c.from;
-    if from < c.to {
-        return s[from];
+    fn read(s: &[u8], a: usize, e: usize) -> f64 {
+        fields::real_or_nan(s, a, e).unwrap_or(0.0)
     }
-    0
 }
 
-fn fill_reals(s: &[u8], a: usize, e: usize, j: usize, out: &mut [f64])
+// A bus number.
+impl Cell for usize {
+    ghost value = { number_value };
+
+    fn read(s: &[u8], a: usize, e: usize) -> usize {
+        fields::read_bus(s, a, e).unwrap_or(0)
+    }
+}
+
+// A kind, as its letter.
+impl Cell for u8 {
+    ghost value = { kind_value };
+
+    fn read(s: &[u8], a: usize, e: usize) -> u8 {
+        if a < e { s[a] } else { 0 }
+    }
+}
+
+// Field j of a line.
+fn cell_at<T: Cell>(s: &[u8], a: usize, e: usize, j: usize) -> T
+    requires { (a ≤ e) × (e ≤ length s.now) × (j < 16) }
+    ensures { result ≡ T.value (cell_of j (slice a e s.now)) }
+{
+    let c = piece(s, a, e, j + 1);
+    T::read(s, c.from, c.to)
+}
+
+// Field j of each line of a section.
+fn fill<T: Cell>(s: &[u8], a: usize, e: usize, j: usize, out: &mut [T])
     requires within { (a ≤ e) × (e ≤ length s.now) }
     requires room { (j < 16) × (row_count (slice a e s.now) ≤ length out.old) }
-    ensures { out.new ≡ filled (real_field j) (slice a e s.now) out.old }
+    ensures { out.new ≡ filled (λ r. T.value (cell_of j r)) (slice a e s.now) out.old }
 {
     let mut i = a;
-    let mut r: usize = 0;
-    while i < e {
+    for x in out.iter_mut() {
         let p = fields::find(s, i, e, b'\n');
         if p == e {
             return;
         }
-        out[r] = real_at(s, i, p, j);
+        *x = cell_at(s, i, p, j);
         i = p + 1;
-        r += 1;
-    }
-}
-
-fn fill_numbers(s: &[u8], a: usize, e: usize, j: usize, out: &mut [usize])
-    requires within { (a ≤ e) × (e ≤ length s.now) }
-    requires room { (j < 16) × (row_count (slice a e s.now) ≤ length out.old) }
-    ensures { out.new ≡ filled (number_field j) (slice a e s.now) out.old }
-{
-    let mut i = a;
-    let mut r: usize = 0;
-    while i < e {
-        let p = fields::find(s, i, e, b'\n');
-        if p == e {
-            return;
-        }
-        out[r] = number_at(s, i, p, j);
-        i = p + 1;
-        r += 1;
-    }
-}
-
-fn fill_kinds(s: &[u8], a: usize, e: usize, j: usize, out: &mut [u8])
-    requires within { (a ≤ e) × (e ≤ length s.now) }
-    requires room { (j < 16) × (row_count (slice a e s.now) ≤ length out.old) }
-    ensures { out.new ≡ filled (kind_field j) (slice a e s.now) out.old }
-{
-    let mut i = a;
-    let mut r: usize = 0;
-    while i < e {
-        let p = fields::find(s, i, e, b'\n');
-        if p == e {
-            return;
-        }
-        out[r] = kind_at(s, i, p, j);
-        i = p + 1;
-        r += 1;
     }
 }
 
@@ -141,10 +117,10 @@ fn fill_buses_front(
         × (pd.new ≡ filled (real_field 2) (slice a e s.now) pd.old)
         × (qd.new ≡ filled (real_field 3) (slice a e s.now) qd.old) }
 {
-    fill_kinds(s, a, e, 0, kind);
-    fill_reals(s, a, e, 1, vm_set);
-    fill_reals(s, a, e, 2, pd);
-    fill_reals(s, a, e, 3, qd);
+    fill(s, a, e, 0, kind);
+    fill(s, a, e, 1, vm_set);
+    fill(s, a, e, 2, pd);
+    fill(s, a, e, 3, qd);
 }
 
 // Four columns of reals: fields j to j + 3.
@@ -165,10 +141,10 @@ fn fill_four(
         × (z.new ≡ filled (real_field (j + 2)) (slice a e s.now) z.old)
         × (w.new ≡ filled (real_field (j + 3)) (slice a e s.now) w.old) }
 {
-    fill_reals(s, a, e, j, x);
-    fill_reals(s, a, e, j + 1, y);
-    fill_reals(s, a, e, j + 2, z);
-    fill_reals(s, a, e, j + 3, w);
+    fill(s, a, e, j, x);
+    fill(s, a, e, j + 1, y);
+    fill(s, a, e, j + 2, z);
+    fill(s, a, e, j + 3, w);
 }
 
 // `B kind vm_set pd qd pg qg vm_case va_case`.
@@ -202,8 +178,8 @@ fn fill_slacks(s: &[u8], a: usize, e: usize, slacks: &mut [usize], va_slacks: &m
     ensures { (slacks.new ≡ filled (number_field 0) (slice a e s.now) slacks.old)
         × (va_slacks.new ≡ filled (real_field 1) (slice a e s.now) va_slacks.old) }
 {
-    fill_numbers(s, a, e, 0, slacks);
-    fill_reals(s, a, e, 1, va_slacks);
+    fill(s, a, e, 0, slacks);
+    fill(s, a, e, 1, va_slacks);
 }
 
 // `G bus qmin qmax`.
@@ -221,9 +197,9 @@ fn fill_generators(
         × (qmin.new ≡ filled (real_field 1) (slice a e s.now) qmin.old)
         × (qmax.new ≡ filled (real_field 2) (slice a e s.now) qmax.old) }
 {
-    fill_numbers(s, a, e, 0, gen_bus);
-    fill_reals(s, a, e, 1, qmin);
-    fill_reals(s, a, e, 2, qmax);
+    fill(s, a, e, 0, gen_bus);
+    fill(s, a, e, 1, qmin);
+    fill(s, a, e, 2, qmax);
 }
 
 // `L from to`.
@@ -233,8 +209,8 @@ fn fill_branches(s: &[u8], a: usize, e: usize, br_from: &mut [usize], br_to: &mu
     ensures { (br_from.new ≡ filled (number_field 0) (slice a e s.now) br_from.old)
         × (br_to.new ≡ filled (number_field 1) (slice a e s.now) br_to.old) }
 {
-    fill_numbers(s, a, e, 0, br_from);
-    fill_numbers(s, a, e, 1, br_to);
+    fill(s, a, e, 0, br_from);
+    fill(s, a, e, 1, br_to);
 }
 
 // `Y row col re im`.
@@ -254,10 +230,10 @@ fn fill_triplets(
         × (y_re.new ≡ filled (real_field 2) (slice a e s.now) y_re.old)
         × (y_im.new ≡ filled (real_field 3) (slice a e s.now) y_im.old) }
 {
-    fill_numbers(s, a, e, 0, y_row);
-    fill_numbers(s, a, e, 1, y_col);
-    fill_reals(s, a, e, 2, y_re);
-    fill_reals(s, a, e, 3, y_im);
+    fill(s, a, e, 0, y_row);
+    fill(s, a, e, 1, y_col);
+    fill(s, a, e, 2, y_re);
+    fill(s, a, e, 3, y_im);
 }
 
 // The sections R and G, which start at r and g; the next starts at l.
@@ -338,5 +314,5 @@ pub fn fill_branch_table(
     fill_branches(s, a, e, from, to);
     fill_four(s, a, e, 2, g, b, g_fr, b_fr);
     fill_four(s, a, e, 6, g_to, b_to, tap, shift);
-    fill_reals(s, a, e, 10, sw);
+    fill(s, a, e, 10, sw);
 }
