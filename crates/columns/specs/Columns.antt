@@ -6,7 +6,7 @@ use Rattle.fields.specs.Cut.{pieces}
 use Rattle.fields.specs.Digits.{bus_of, number_in}
 use Rattle.fields.specs.Real.{DigitRule, allowed, or_nan_by, real_in}
 use Rattle.rows.specs.Rows.{rows_of}
-use Rattle.network.specs.BranchTable.{BranchTable, values_of, branch_table_of}
+use Rattle.network.specs.BranchTable.{Values, BranchTable, values_of, branch_table_of}
 use Rattle.network.specs.Network.{Buses, Slacks, Generators, Branches, Triplets, buses_of, slacks_of, generators_of, branches_of, triplets_of}
 
 abbrev pub row_count : List ℕ → ℕ
@@ -66,12 +66,13 @@ module _ (rule : DigitRule) where
   triplets_by l t =
       triplets_of (filled (number_field 0) l t.row) (filled (number_field 1) l t.col) (filled (real_field_by rule 2) l t.re) (filled (real_field_by rule 3) l t.im)
 
-  abbrev pub branch_table_by : List ℕ → BranchTable → BranchTable
-  branch_table_by l t =
+  abbrev pub values_by : List ℕ → Values → Values
+  values_by l v =
       let real : ℕ → List Float → List Float = λ j old. filled (real_field_by rule j) l old in
-      let v = t.values in
-      branch_table_of (filled_branches l t.ends)
-      (values_of (real 2 v.g) (real 3 v.b) (real 4 v.g_fr) (real 5 v.b_fr) (real 6 v.g_to) (real 7 v.b_to) (real 8 v.tap) (real 9 v.shift) (real 10 v.sw))
+      values_of (real 2 v.g) (real 3 v.b) (real 4 v.g_fr) (real 5 v.b_fr) (real 6 v.g_to) (real 7 v.b_to) (real 8 v.tap) (real 9 v.shift) (real 10 v.sw)
+
+  abbrev pub branch_table_by : List ℕ → BranchTable → BranchTable
+  branch_table_by l t = branch_table_of (filled_branches l t.ends) (values_by l t.values)
 
 -- ---- by 02's digit rule
 
@@ -92,6 +93,9 @@ filled_generators = generators_by allowed
 
 abbrev pub filled_triplets : List ℕ → Triplets → Triplets
 filled_triplets = triplets_by allowed
+
+abbrev pub filled_values : List ℕ → Values → Values
+filled_values = values_by allowed
 
 abbrev pub filled_branch_table : List ℕ → BranchTable → BranchTable
 filled_branch_table = branch_table_by allowed
