@@ -1,13 +1,13 @@
 // The tables of a case: their columns, how many rows each has, and what 01 asks of them before anything is worked out.
 #![tactic(auto)]
 
-ghost use Rattle.std.specs.Prelude.{◌≡◌, ◌||◌, leb, length, zip};
-ghost use Rattle.std.specs.List.{position};
+ghost use Rattle.std.specs.Prelude.{◌≡◌, ◌||◌, eqb, leb, length, zip};
+ghost use Rattle.std.specs.List.{list_all, position};
 ghost use Rattle.network.specs.Network.{fits_of, buses_room, slacks_room, generators_room, branches_room, triplets_room, room_of, RoomFor, first_rows};
 ghost use Rattle.network.specs.Network.{RoomBuses, RoomSlacks, RoomGenerators, RoomBranches, RoomTriplets, first_buses, first_slacks, first_generators, first_branches, first_triplets};
 ghost use Rattle.network.specs.Columns.{buses_in, slacks_in, generators_in, branches_in, triplets_in, network_in, values_in, branch_table_in, branch_network_in};
 ghost use Rattle.network.specs.Columns.{buses_lent, slacks_lent, generators_lent, branches_lent, triplets_lent, network_lent, values_lent, branch_table_lent, branch_network_lent};
-ghost use Rattle.network.specs.Checks.{same3, same7, buses_counted, slacks_counted, generators_counted, branches_counted, triplets_counted, counted};
+ghost use Rattle.network.specs.Checks.{buses_counted, slacks_counted, generators_counted, branches_counted, triplets_counted, counted};
 ghost use Rattle.network.specs.BranchTable.{values_counted, values_room, branch_table_room, branch_room_of, RoomValues, RoomBranchTable, RoomForBranches, first_values, first_branch_table, first_branch_rows, with_triplets, no_triplets};
 ghost use Rattle.network.specs.Missing.{in_column, first_field, in_ends, missing_in};
 
@@ -190,18 +190,11 @@ pub fn fits(r: Rows, room: Rows) -> bool
 
 // ---- refusal 7: a count over its size, or columns of one table that differ in length
 
-#[tactic(auto, unfolding(real::specs::Tests::both))]
-fn equal3(n: usize, a: usize, b: usize, c: usize) -> bool
-    ensures { result ≡ same3 n a b c }
+// Whether each of these lengths is n.
+fn same<const N: usize>(n: usize, lengths: [usize; N]) -> bool
+    ensures { result ≡ list_all (λ k. eqb k n) lengths.entry }
 {
-    (a == n) & ((b == n) & (c == n))
-}
-
-#[tactic(auto, unfolding(real::specs::Tests::both))]
-fn equal7(n: usize, a: usize, b: usize, c: usize, d: usize, e: usize, f: usize, g: usize) -> bool
-    ensures { result ≡ same7 n a b c d e f g }
-{
-    equal3(n, a, b, c) & ((d == n) & equal3(n, e, f, g))
+    lengths.iter().all(|&k| k == n)
 }
 
 impl<'a> BusColumns<'a> {
@@ -210,17 +203,19 @@ impl<'a> BusColumns<'a> {
         ensures { result ≡ buses_counted (buses_in self.entry) }
     {
         let n = self.kind.len();
-        let same = equal7(
+        let equal = same(
             n,
-            self.vm_set.len(),
-            self.pd.len(),
-            self.qd.len(),
-            self.pg.len(),
-            self.qg.len(),
-            self.vm_case.len(),
-            self.va_case.len(),
+            [
+                self.vm_set.len(),
+                self.pd.len(),
+                self.qd.len(),
+                self.pg.len(),
+                self.qg.len(),
+                self.vm_case.len(),
+                self.va_case.len(),
+            ],
         );
-        (n <= 32) & same
+        (n <= 32) & equal
     }
 
     // The first n rows.
@@ -294,7 +289,7 @@ impl<'a> GeneratorColumns<'a> {
         ensures { result ≡ generators_counted (generators_in self.entry) }
     {
         let n = self.bus.len();
-        (n <= 32) & ((self.qmin.len() == n) & (self.qmax.len() == n))
+        (n <= 32) & same(n, [self.qmin.len(), self.qmax.len()])
     }
 
     // The first n rows.
@@ -366,7 +361,7 @@ impl<'a> TripletColumns<'a> {
         ensures { result ≡ triplets_counted (triplets_in self.entry) }
     {
         let n = self.row.len();
-        (n <= 256) & equal3(n, self.col.len(), self.re.len(), self.im.len())
+        (n <= 256) & same(n, [self.col.len(), self.re.len(), self.im.len()])
     }
 
     // The first n rows.
@@ -401,17 +396,20 @@ impl<'a> ValueColumns<'a> {
     pub fn counted(self, n: usize) -> bool
         ensures { result ≡ values_counted n (values_in self.entry) }
     {
-        let same = equal7(
+        same(
             n,
-            self.g.len(),
-            self.b.len(),
-            self.g_fr.len(),
-            self.b_fr.len(),
-            self.g_to.len(),
-            self.b_to.len(),
-            self.tap.len(),
-        );
-        same & ((self.shift.len() == n) & (self.sw.len() == n))
+            [
+                self.g.len(),
+                self.b.len(),
+                self.g_fr.len(),
+                self.b_fr.len(),
+                self.g_to.len(),
+                self.b_to.len(),
+                self.tap.len(),
+                self.shift.len(),
+                self.sw.len(),
+            ],
+        )
     }
 
     // The first n rows.
