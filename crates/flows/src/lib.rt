@@ -52,12 +52,12 @@ pub fn blank() -> Flows
 fn branch_flow(y: Admittance, from: Complex, to: Complex) -> Flow
     ensures { result ≡ flow_of y from to }
 {
-    let i_from = y.ff.product(from).sum(y.ft.product(to));
-    let i_to = y.tf.product(from).sum(y.tt.product(to));
+    let i_from = y.ff * from + y.ft * to;
+    let i_to = y.tf * from + y.tt * to;
     let against_from = i_from.conjugate();
     let against_to = i_to.conjugate();
-    let s_from = from.product(against_from);
-    let s_to = to.product(against_to);
+    let s_from = from * against_from;
+    let s_to = to * against_to;
     Flow {
         pf: s_from.re,
         qf: s_from.im,

@@ -87,7 +87,7 @@ fn currents(
         let i = bus(y_row, t, n);
         let k = bus(y_col, t, n);
         let y = Complex::new(y_re[t], y_im[t]);
-        let x = y.product(Complex::new(v.re[k], v.im[k]));
+        let x = y * Complex::new(v.re[k], v.im[k]);
         re[i] = re[i] + x.re;
         im[i] = im[i] + x.im;
     }
@@ -126,7 +126,7 @@ pub fn bus_powers(n: usize, s: Phasors) -> Injected
     for b in 0..n {
         let current = Complex::new(i.re[b], i.im[b]);
         let against = current.conjugate();
-        let x = Complex::new(v.re[b], v.im[b]).product(against);
+        let x = Complex::new(v.re[b], v.im[b]) * against;
         p[b] = x.re;
         q[b] = x.im;
     }
@@ -158,16 +158,16 @@ pub fn ac_injections(
 fn angle_on_diagonal(y: Complex, v: Complex, c: Complex) -> Complex
     ensures { result ≡ angle_on y v c }
 {
-    let against = c.difference(y.product(v)).conjugate();
-    Complex::I.product(v).product(against)
+    let against = (c - y * v).conjugate();
+    Complex::I * v * against
 }
 
 // v is the voltage at the triplet's row, vk that at its column.
 fn angle_off_diagonal(y: Complex, v: Complex, vk: Complex) -> Complex
     ensures { result ≡ angle_off y v vk }
 {
-    let against = y.product(vk).conjugate();
-    Complex::I.negation().product(v).product(against)
+    let against = (y * vk).conjugate();
+    -Complex::I * v * against
 }
 
 // By a magnitude: u is the voltage of magnitude one at the triplet's column.
@@ -176,7 +176,7 @@ fn magnitude_part(y: Complex, v: Complex, u: Complex) -> Complex
 {
     let y_conj = y.conjugate();
     let u_conj = u.conjugate();
-    v.product(y_conj).product(u_conj)
+    v * y_conj * u_conj
 }
 
 fn on_diagonal(y: Complex, v: Complex, c: Complex, u: Complex) -> Derivatives
@@ -184,7 +184,7 @@ fn on_diagonal(y: Complex, v: Complex, c: Complex, u: Complex) -> Derivatives
 {
     let dva = angle_on_diagonal(y, v, c);
     let own = magnitude_part(y, v, u);
-    let dvm = own.sum(c.conjugate().product(u));
+    let dvm = own + c.conjugate() * u;
     Derivatives { dva, dvm }
 }
 

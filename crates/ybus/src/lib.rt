@@ -74,10 +74,10 @@ pub fn branch_admittance(x: Branch) -> Admittance
     let y_fr = Complex::new(x.g_fr, x.b_fr);
     let y_to = Complex::new(x.g_to, x.b_to);
     let against = t.conjugate();
-    let ff = y.sum(y_fr).divided(x.tap * x.tap).scaled(x.sw);
-    let ft = y.negation().quotient(against).scaled(x.sw);
-    let tf = y.negation().quotient(t).scaled(x.sw);
-    let tt = y.sum(y_to).scaled(x.sw);
+    let ff = (y + y_fr) / (x.tap * x.tap) * x.sw;
+    let ft = -y / against * x.sw;
+    let tf = -y / t * x.sw;
+    let tt = (y + y_to) * x.sw;
     Admittance { ff, ft, tf, tt }
 }
 
@@ -155,9 +155,9 @@ fn diagonals(from: &[usize], to: &[usize], y: [Admittance; 64]) -> [Complex; 32]
         let i = from[e];
         let k = to[e];
         let x = y[e];
-        let a = d[i].sum(x.ff);
+        let a = d[i] + x.ff;
         d[i] = a;
-        let b = d[k].sum(x.tt);
+        let b = d[k] + x.tt;
         d[k] = b;
     }
     d

@@ -10,8 +10,8 @@ loop-b-preserved c =
     let against = c.conjugate-against.ensures in
     let i = c.new-current.ensures in
     let l = c.loop-b in (
-      stored_next l.invariant.0 (omega arith) (rw (c.product-x.ensures, v, against, i)),
-      stored_next l.invariant.1 (omega arith) (rw (c.product-x.ensures, v, against, i)),
+      stored_next l.invariant.0 (omega arith) (rw (c.mul-x.ensures, v, against, i)),
+      stored_next l.invariant.1 (omega arith) (rw (c.mul-x.ensures, v, against, i)),
     )
 
 pub loop-b-init : goal.loop-b-init

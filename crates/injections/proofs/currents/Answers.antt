@@ -19,7 +19,7 @@ bus-k-requires c = let good = c.requires in (let e = good.cols in omega arith, g
 
 pub loop-t-preserved : goal.loop-t-preserved
 loop-t-preserved c =
-    let product = c.product-x.ensures in
+    let product = c.mul-x.ensures in
     let v = c.new.ensures in
     let y = c.new-y.ensures in
     let k = c.bus-k.ensures.0 in

@@ -9,10 +9,10 @@ use Rattle.ybus.proofs.diagonals.Goals as goal
 pub loop-e-preserved : goal.loop-e-preserved
 loop-e-preserved c =
     let l = c.loop-e in
-    let s = c.sum-a in
+    let s = c.add-a in
     let a = c.args in
     let from = get_or a.from.now l.e 0 in
-    (omega arith, l.invariant.1, sums-turn (branches_of a.from.now a.to.now) a.y l.e (c.requires.1 c.loop-e.e (omega arith)) (c.requires.2 c.loop-e.e (omega arith)) l.d (set l.d from s.result) _ l.invariant.2 (rw s.ensures) (rw c.sum-b.ensures))
+    (omega arith, l.invariant.1, sums-turn (branches_of a.from.now a.to.now) a.y l.e (c.requires.1 c.loop-e.e (omega arith)) (c.requires.2 c.loop-e.e (omega arith)) l.d (set l.d from s.result) _ l.invariant.2 (rw s.ensures) (rw c.add-b.ensures))
 
 pub returns : goal.returns
 returns c =
@@ -29,8 +29,8 @@ offset_bounds-d-i c = omega (arith, (c.requires.1 c.loop-e.e (omega arith)))
 pub bounds-d-i : goal.bounds-d-i
 bounds-d-i c = omega (arith, (c.requires.1 c.loop-e.e (omega arith)))
 
-pub sum-a-requires : goal.sum-a-requires
-sum-a-requires c = omega (arith, (c.requires.1 c.loop-e.e (omega arith)))
+pub add-a-requires : goal.add-a-requires
+add-a-requires c = omega (arith, (c.requires.1 c.loop-e.e (omega arith)))
 
 pub offset_bounds-d-i-in-loop-e : goal.offset_bounds-d-i-in-loop-e
 offset_bounds-d-i-in-loop-e c = omega (arith, (c.requires.1 c.loop-e.e (omega arith)))
@@ -41,8 +41,8 @@ bounds-d-i-in-loop-e c = omega (arith, (c.requires.2 c.loop-e.e (omega arith)))
 pub offset_bounds-d-k : goal.offset_bounds-d-k
 offset_bounds-d-k c = omega (arith, (c.requires.2 c.loop-e.e (omega arith)))
 
-pub sum-b-requires : goal.sum-b-requires
-sum-b-requires c = omega (arith, (c.requires.2 c.loop-e.e (omega arith)))
+pub add-b-requires : goal.add-b-requires
+add-b-requires c = omega (arith, (c.requires.2 c.loop-e.e (omega arith)))
 
 pub offset_bounds-d-k-in-loop-e : goal.offset_bounds-d-k-in-loop-e
 offset_bounds-d-k-in-loop-e c = omega (arith, (c.requires.2 c.loop-e.e (omega arith)))
