@@ -6,7 +6,7 @@ use Rattle.fields.specs.Cut.{pieces}
 use Rattle.fields.specs.Digits.{bus_of, number_in}
 use Rattle.fields.specs.Real.{DigitRule, allowed, or_nan_by, real_in}
 use Rattle.rows.specs.Rows.{rows_of}
-use Rattle.network.specs.BranchTable.{BranchTable, values_of, branch_table_of}
+use Rattle.network.specs.BranchTable.{Values, BranchTable, values_of, branch_table_of}
 use Rattle.network.specs.Network.{Buses, Slacks, Generators, Branches, Triplets, buses_of, slacks_of, generators_of, branches_of, triplets_of}
 
 abbrev pub row_count : List ℕ → ℕ
@@ -18,14 +18,24 @@ cell_of j l = get_or (pieces 32 l) (j + 1) []
 
 -- the three kinds of column: reals by a digit rule (`?` is no other real, so it is read the same way wherever it is allowed), bus numbers, and a kind
 -- as its letter's byte
+abbrev pub real_value_by : DigitRule → List ℕ → Float
+real_value_by rule f = real_in (or_nan_by rule f)
+
+abbrev pub number_value : List ℕ → ℕ
+number_value f = number_in (bus_of f)
+
+abbrev pub kind_value : List ℕ → ℕ
+kind_value f = get_or f 0 0
+
+-- field j of a line as each of these
 abbrev pub real_field_by : DigitRule → ℕ → List ℕ → Float
-real_field_by rule j r = real_in (or_nan_by rule (cell_of j r))
+real_field_by rule j r = real_value_by rule (cell_of j r)
 
 abbrev pub number_field : ℕ → List ℕ → ℕ
-number_field j r = number_in (bus_of (cell_of j r))
+number_field j r = number_value (cell_of j r)
 
 abbrev pub kind_field : ℕ → List ℕ → ℕ
-kind_field j r = get_or (cell_of j r) 0 0
+kind_field j r = kind_value (cell_of j r)
 
 -- what f says of each row of a section's bytes
 abbrev pub column_of : {A : Type 0} → (List ℕ → A) → List ℕ → List A
@@ -56,14 +66,18 @@ module _ (rule : DigitRule) where
   triplets_by l t =
       triplets_of (filled (number_field 0) l t.row) (filled (number_field 1) l t.col) (filled (real_field_by rule 2) l t.re) (filled (real_field_by rule 3) l t.im)
 
-  abbrev pub branch_table_by : List ℕ → BranchTable → BranchTable
-  branch_table_by l t =
+  abbrev pub values_by : List ℕ → Values → Values
+  values_by l v =
       let real : ℕ → List Float → List Float = λ j old. filled (real_field_by rule j) l old in
-      let v = t.values in
-      branch_table_of (filled_branches l t.ends)
-      (values_of (real 2 v.g) (real 3 v.b) (real 4 v.g_fr) (real 5 v.b_fr) (real 6 v.g_to) (real 7 v.b_to) (real 8 v.tap) (real 9 v.shift) (real 10 v.sw))
+      values_of (real 2 v.g) (real 3 v.b) (real 4 v.g_fr) (real 5 v.b_fr) (real 6 v.g_to) (real 7 v.b_to) (real 8 v.tap) (real 9 v.shift) (real 10 v.sw)
+
+  abbrev pub branch_table_by : List ℕ → BranchTable → BranchTable
+  branch_table_by l t = branch_table_of (filled_branches l t.ends) (values_by l t.values)
 
 -- ---- by 02's digit rule
+
+abbrev pub real_value : List ℕ → Float
+real_value = real_value_by allowed
 
 abbrev pub real_field : ℕ → List ℕ → Float
 real_field = real_field_by allowed
@@ -79,6 +93,9 @@ filled_generators = generators_by allowed
 
 abbrev pub filled_triplets : List ℕ → Triplets → Triplets
 filled_triplets = triplets_by allowed
+
+abbrev pub filled_values : List ℕ → Values → Values
+filled_values = values_by allowed
 
 abbrev pub filled_branch_table : List ℕ → BranchTable → BranchTable
 filled_branch_table = branch_table_by allowed

@@ -1,9 +1,7 @@
 -- Digits as a whole number, for every length; which of them count; and 01's bus number.
 pub mod Laws
-use Rattle.std.specs.Prelude.{ℕ, ◌+◌, ◌-◌, ◌*◌, ◌^◌, Bool, true, false, cond, ◌&&◌, ◌||◌, not, List, [], ◌∷◌, eqb, leb, ltb, length}
+use Rattle.std.specs.Prelude.{ℕ, ◌+◌, ◌-◌, ◌*◌, ◌^◌, Bool, true, cond, ◌&&◌, ◌||◌, not, List, [], ◌∷◌, eqb, leb, ltb, length, None, Option, Some, unwrap_or}
 use Rattle.fields.specs.Cut.{empty}
-use Rattle.fields.specs.declared.Digits.{Digits}
-use Rattle.fields.specs.declared.Digits.TheVariants as Digits
 
 -- `0` to `9`
 abbrev pub digit : ℕ → Bool
@@ -24,23 +22,18 @@ counted [] = []
 counted (b ∷ r) = cond (eqb b 48) (counted r) (b ∷ r)
 
 -- digits alone, as a number, after those that gave m
-abbrev pub digits_of : ℕ → List ℕ → Digits
-digits_of m l = cond (digits l) (Digits.Number (number m l)) Digits.Other
+abbrev pub digits_of : ℕ → List ℕ → Option ℕ
+digits_of m l = cond (digits l) (Some (number m l)) None
 
 -- the same where the number stays below 10^15, which is where no more than 15 digits count (`count-limit`)
-abbrev pub limited_of : ℕ → List ℕ → Digits
-limited_of m l = cond (digits l && ltb (number m l) (10 ^ 15)) (Digits.Number (number m l)) Digits.Other
+abbrev pub limited_of : ℕ → List ℕ → Option ℕ
+limited_of m l = cond (digits l && ltb (number m l) (10 ^ 15)) (Some (number m l)) None
 
 -- "1 to 3 digits with no leading zero, except `0` itself"
-abbrev pub bus_of : List ℕ → Digits
-bus_of [] = Digits.Other
-bus_of (b ∷ r) = cond (leb (length r) 2 && (not (eqb b 48) || empty r)) (digits_of 0 (b ∷ r)) Digits.Other
-
-abbrev pub is_number : Digits → Bool
-is_number (Digits.Number n) = true
-is_number Digits.Other = false
+abbrev pub bus_of : List ℕ → Option ℕ
+bus_of [] = None
+bus_of (b ∷ r) = cond (leb (length r) 2 && (not (eqb b 48) || empty r)) (digits_of 0 (b ∷ r)) None
 
 -- the number of a good field; what stands for a wrong one is never handed out
-abbrev pub number_in : Digits → ℕ
-number_in (Digits.Number n) = n
-number_in Digits.Other = 0
+abbrev pub number_in : Option ℕ → ℕ
+number_in r = unwrap_or r 0

@@ -1,7 +1,7 @@
 -- 02, Ask 5: "give for each branch the active and reactive power entering at each end: the end's voltage times the conjugate of its own current, from the same
 -- four admittances, with the from-side product added before the to-side one. The loss is the sum of the two active figures, from end first."
 pub mod Laws
-use Rattle.std.specs.Prelude.{ℕ, ◌≤◌, min, List, length, replicate, Float}
+use Rattle.std.specs.Prelude.{ℕ, ◌≤◌, ◌≡◌, min, List, length, replicate, Float}
 use Rattle.std.specs.Float.{binary64}
 use Rattle.std.specs.Float.Ieee.{add}
 use Rattle.real.specs.Literals.{nought}
@@ -15,6 +15,7 @@ use Rattle.ybus.specs.declared.Admittance.{Admittance}
 use Rattle.ybus.specs.Branch.{from_of, to_of, branch_at, admittance_of}
 use Rattle.flows.specs.declared.Flow.{Flow}
 use Rattle.flows.specs.declared.Flows.{Flows}
+use Rattle.flows.specs.declared.FlowColumnsMut.{FlowColumnsMut}
 
 -- ---- a branch
 
@@ -45,6 +46,17 @@ flow_of y v u =
 -- the five columns
 abbrev pub flows_of : List Float → List Float → List Float → List Float → List Float → Flows
 flows_of pf qf pt qt loss = record { pf = pf; qf = qf; pt = pt; qt = qt; loss = loss }
+
+-- those that lent columns hold, and that they are still the columns that were lent
+abbrev pub flows_lent : FlowColumnsMut → Flows
+flows_lent c = flows_of c.pf.now c.qf.now c.pt.now c.qt.now c.loss.now
+
+pub record SameFlows (c d : FlowColumnsMut) : Type 0 where
+  pub pf : d.pf.ghost_name ≡ c.pf.ghost_name
+  pub qf : d.qf.ghost_name ≡ c.qf.ghost_name
+  pub pt : d.pt.ghost_name ≡ c.pt.ghost_name
+  pub qt : d.qt.ghost_name ≡ c.qt.ghost_name
+  pub loss : d.loss.ghost_name ≡ c.loss.ghost_name
 
 -- columns of zeros for as many branches as a case may have
 abbrev pub blank_flows : Flows

@@ -3,13 +3,14 @@
 
 ghost use Rattle.std.specs.Prelude.{◌≡◌, length, ◌<◌};
 ghost use Rattle.network.specs.Below.{Below};
-ghost use Rattle.network.specs.Network.{branches_of};
+ghost use Rattle.network.specs.Columns.{branches_in};
 ghost use Rattle.network.specs.Checks.{SizedBranches};
 ghost use Rattle.injections.specs.Injections.{voltage_at};
 ghost use Rattle.ybus.specs.Ybus.{admittance_at};
-ghost use Rattle.flows.specs.Flows.{fewest_of, flow_of, flows_of, blank_flows, OnePerBranch, with_flows_by};
+ghost use Rattle.flows.specs.Flows.{flow_of, flows_lent, SameFlows, flows_room, blank_flows, OnePerBranch, with_flows_by};
 
 use complex::Complex;
+use network::BranchColumns;
 use ybus::Admittance;
 
 // What enters one branch: active and reactive power at its from end and at its to end; and the loss.
@@ -32,6 +33,27 @@ pub struct Flows {
     pub loss: [f64; 64],
 }
 
+// Five columns of flows, lent for writing.
+#[derive(Drop)]
+pub struct FlowColumnsMut<'a> {
+    pub pf: &'a mut [f64],
+    pub qf: &'a mut [f64],
+    pub pt: &'a mut [f64],
+    pub qt: &'a mut [f64],
+    pub loss: &'a mut [f64],
+}
+
+impl FlowColumnsMut<'_> {
+    // How many branches there is room for: the fewest places that a column has.
+    pub fn room(&self) -> usize
+        ensures { result ≡ flows_room (flows_lent self.now) }
+    {
+        let from = self.pf.len().min(self.qf.len());
+        let to = self.pt.len().min(self.qt.len());
+        from.min(to).min(self.loss.len())
+    }
+}
+
 // Zeros.
 pub fn blank() -> Flows
     ensures { result ≡ blank_flows }
@@ -52,12 +74,12 @@ pub fn blank() -> Flows
 fn branch_flow(y: Admittance, from: Complex, to: Complex) -> Flow
     ensures { result ≡ flow_of y from to }
 {
-    let i_from = y.ff.product(from).sum(y.ft.product(to));
-    let i_to = y.tf.product(from).sum(y.tt.product(to));
+    let i_from = y.ff * from + y.ft * to;
+    let i_to = y.tf * from + y.tt * to;
     let against_from = i_from.conjugate();
     let against_to = i_to.conjugate();
-    let s_from = from.product(against_from);
-    let s_to = to.product(against_to);
+    let s_from = from * against_from;
+    let s_to = to * against_to;
     Flow {
         pf: s_from.re,
         qf: s_from.im,
@@ -79,40 +101,26 @@ fn voltage(b: usize, vm: &[f64], va: &[f64]) -> Complex
 
 // The flows of all branches, whose admittances are y, at the voltages of a solved answer: one place per branch in each column, and none past them.
 pub fn write_flows(
-    from: &[usize],
-    to: &[usize],
+    ends: BranchColumns,
     y: [Admittance; 64],
     vm: &[f64],
     va: &[f64],
-    pf: &mut [f64],
-    qf: &mut [f64],
-    pt: &mut [f64],
-    qt: &mut [f64],
-    loss: &mut [f64],
+    out: &mut FlowColumnsMut,
 )
-    requires sized_branches { SizedBranches (branches_of from.now to.now) × OnePerBranch (length from.now) (flows_of pf.old qf.old pt.old qt.old loss.old) }
-    requires below { Below (length vm.now) from.now × Below (length va.now) from.now × Below (length vm.now) to.now × Below (length va.now) to.now }
-    ensures { flows_of pf.new qf.new pt.new qt.new loss.new
-        ≡ with_flows_by (branches_of from.now to.now) (admittance_at y) vm.now va.now
-        (flows_of pf.old qf.old pt.old qt.old loss.old) }
+    requires sized_branches { SizedBranches (branches_in ends) × OnePerBranch (length ends.from.now) (flows_lent out.old) }
+    requires below { Below (length vm.now) ends.from.now × Below (length va.now) ends.from.now × Below (length vm.now) ends.to.now × Below (length va.now) ends.to.now }
+    ensures flows { flows_lent out.new
+        ≡ with_flows_by (branches_in ends.entry) (admittance_at y) vm.now va.now (flows_lent out.old) }
+    ensures same_columns { SameFlows out.old out.new }
 {
-    for e in 0..from.len() {
-        let v_from = voltage(from[e], vm, va);
-        let v_to = voltage(to[e], vm, va);
+    for e in 0..ends.from.len() {
+        let v_from = voltage(ends.from[e], vm, va);
+        let v_to = voltage(ends.to[e], vm, va);
         let f = branch_flow(y[e], v_from, v_to);
-        pf[e] = f.pf;
-        qf[e] = f.qf;
-        pt[e] = f.pt;
-        qt[e] = f.qt;
-        loss[e] = f.loss;
+        out.pf[e] = f.pf;
+        out.qf[e] = f.qf;
+        out.pt[e] = f.pt;
+        out.qt[e] = f.qt;
+        out.loss[e] = f.loss;
     }
-}
-
-// ---- the room
-
-// The fewest places that one of the five columns has.
-pub fn fewest(pf: usize, qf: usize, pt: usize, qt: usize, loss: usize) -> usize
-    ensures { result ≡ fewest_of pf qf pt qt loss }
-{
-    real::least(real::least(real::least(pf, qf), real::least(pt, qt)), loss)
 }

@@ -5,6 +5,7 @@ use mathlib.Core.List.{List, [], ◌∷◌}
 use lib.ListN.{replicate}
 use lib.Ieee.{Float, of_int, of_bits, add, sub, mul}
 use Rattle.real.specs.Literals.{double, nought}
+use Rattle.complex.specs.Numbers.{complex}
 use Rattle.layout.specs.declared.AcPfLayout.{AcPfLayout}
 use Rattle.layout.specs.Layout.{none}
 use Rattle.linsolve.specs.Linear as Linear
@@ -22,7 +23,7 @@ once = triplets_of (0 ∷ []) (0 ∷ []) (double 0 ∷ []) (double 2 ∷ [])
 
 -- the voltage 1, and the current 2 j that either drives
 abbrev pub phasors : Phasors
-phasors = record { v = record { re = double 1 ∷ []; im = double 0 ∷ [] }; i = record { re = double 0 ∷ []; im = double 2 ∷ [] } }
+phasors = record { v = complex (double 1) (double 0) ∷ []; i = complex (double 0) (double 2) ∷ [] }
 
 -- one unknown: the angle
 abbrev pub lone : AcPfLayout

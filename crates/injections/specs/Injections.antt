@@ -5,11 +5,11 @@ use Rattle.std.specs.Prelude.{ℕ, zero, suc, ◌≤◌, List, ◌≡◌, length
 use Rattle.std.specs.Float.{nan}
 use Rattle.real.specs.Literals.{nought}
 use Rattle.complex.specs.declared.Complex.{Complex}
+use Rattle.complex.specs.Numbers as Numbers
 use Rattle.complex.specs.Numbers.{complex, sum_of, conjugate_of, product_of, polar_of}
 use Rattle.network.specs.Network.{Triplets, triplets_of}
 use Rattle.network.specs.Below.{Below}
 use Rattle.layout.specs.Table.{table}
-use Rattle.injections.specs.declared.Column.{Column}
 use Rattle.injections.specs.declared.Phasors.{Phasors}
 use Rattle.injections.specs.declared.Injected.{Injected}
 use Rattle.injections.specs.declared.Injections.{Injections}
@@ -33,30 +33,27 @@ col_of y t = get_or y.col t 0
 abbrev pub entry_of : Triplets → ℕ → Complex
 entry_of y t = complex (get_or y.re t nan) (get_or y.im t nan)
 
--- the complex number at place b of a column, and a column with another there
-abbrev pub at : Column → ℕ → Complex
-at c b = complex (get_or c.re b nan) (get_or c.im b nan)
-
-abbrev pub stored : Column → ℕ → Complex → Column
-stored c b x = record { re = set c.re b x.re; im = set c.im b x.im }
+-- the complex number of bus b
+abbrev pub at : List Complex → ℕ → Complex
+at c b = get_or c b (complex nan nan)
 
 -- f b at each bus b below n
-abbrev pub complex_column : ℕ → (ℕ → Complex) → Column
-complex_column n f = record { re = table n nought (λ b. (f b).re); im = table n nought (λ b. (f b).im) }
+abbrev pub complex_column : ℕ → (ℕ → Complex) → List Complex
+complex_column n f = table n Numbers.zero f
 
 -- the voltage of bus b, a polar number of its magnitude and angle
 abbrev pub voltage_at : List Float → List Float → ℕ → Complex
 voltage_at vm va b = polar_of (get_or vm b nan) (get_or va b nan)
 
-unfoldable pub voltages_of : ℕ → List Float → List Float → Column
+unfoldable pub voltages_of : ℕ → List Float → List Float → List Complex
 voltages_of n vm va = complex_column n (voltage_at vm va)
 
 -- "Currents are summed from zero in triplet order": after the first k triplets, y v of the triplet's column added at its row
-unfoldable pub currents_to : ℕ → Triplets → Column → Column
-currents_to zero y v = record { re = replicate 32 nought; im = replicate 32 nought }
+unfoldable pub currents_to : ℕ → Triplets → List Complex → List Complex
+currents_to zero y v = replicate 32 Numbers.zero
 currents_to (suc k) y v =
     let c = currents_to k y v in
-    stored c (row_of y k) (sum_of (at c (row_of y k)) (product_of (entry_of y k) (at v (col_of y k))))
+    set c (row_of y k) (sum_of (at c (row_of y k)) (product_of (entry_of y k) (at v (col_of y k))))
 
 -- voltages, and the currents that they drive
 unfoldable pub phasors_of : ℕ → Triplets → List Float → List Float → Phasors

@@ -3,25 +3,20 @@
 
 ghost use Rattle.std.specs.Prelude.{◌≡◌, ◌<◌, ◌≤◌, length, get_or};
 ghost use Rattle.network.specs.Below.{Below};
-ghost use Rattle.network.specs.Network.{Triplets, triplets_of};
+ghost use Rattle.network.specs.Network.{Triplets};
+ghost use Rattle.network.specs.Columns.{triplets_in};
 ghost use Rattle.injections.specs.Injections.{GoodTriplets, voltages_of, currents_to, phasors_of, injected_of, injections_of};
 ghost use Rattle.injections.specs.Jacobian.{angle_on, angle_off, magnitude_part, on_diagonal, off_diagonal, derivatives_of, entered, entered_row, entered_all, jacobian_of};
 
 use complex::Complex;
-use layout::AcPfLayout;
+use layout::{AcPfLayout, Point};
+use network::TripletColumns;
 
-// 32 complex numbers, one for each bus.
-#[derive(Clone, Copy)]
-pub struct Column {
-    pub re: [f64; 32],
-    pub im: [f64; 32],
-}
-
-// Bus voltages and currents.
+// The voltage and the current of each bus.
 #[derive(Clone, Copy)]
 pub struct Phasors {
-    pub v: Column,
-    pub i: Column,
+    pub v: [Complex; 32],
+    pub i: [Complex; 32],
 }
 
 // Active and reactive power of each bus.
@@ -54,63 +49,38 @@ fn bus(buses: &[usize], t: usize, n: usize) -> usize
     buses[t]
 }
 
-fn voltages(n: usize, vm: [f64; 32], va: [f64; 32]) -> Column
+fn voltages(n: usize, p: Point) -> [Complex; 32]
     requires { n ≤ 32 }
-    ensures { result ≡ voltages_of n vm va }
+    ensures { result ≡ voltages_of n p.vm p.va }
 {
-    let mut re = [0.0; 32];
-    let mut im = [0.0; 32];
+    let mut v = [Complex::ZERO; 32];
     for b in 0..n {
-        let v = Complex::polar(vm[b], va[b]);
-        re[b] = v.re;
-        im[b] = v.im;
+        v[b] = Complex::polar(p.vm[b], p.va[b]);
     }
-    Column { re, im }
+    v
 }
 
-fn currents(
-    n: usize,
-    y_row: &[usize],
-    y_col: &[usize],
-    y_re: &[f64],
-    y_im: &[f64],
-    v: Column,
-) -> Column
-    requires { let y : Triplets = triplets_of y_row.now y_col.now y_re.now y_im.now in
-        GoodTriplets n y }
-    ensures { let y : Triplets = triplets_of y_row.now y_col.now y_re.now y_im.now in
-        result ≡ currents_to (length y.row) y v }
+fn currents(n: usize, y: TripletColumns, v: [Complex; 32]) -> [Complex; 32]
+    requires { GoodTriplets n (triplets_in y) }
+    ensures { let y : Triplets = triplets_in y.entry in result ≡ currents_to (length y.row) y v }
 {
-    let mut re = [0.0; 32];
-    let mut im = [0.0; 32];
-    for t in 0..y_row.len() {
-        let i = bus(y_row, t, n);
-        let k = bus(y_col, t, n);
-        let y = Complex::new(y_re[t], y_im[t]);
-        let x = y.product(Complex::new(v.re[k], v.im[k]));
-        re[i] = re[i] + x.re;
-        im[i] = im[i] + x.im;
+    let mut i = [Complex::ZERO; 32];
+    for t in 0..y.row.len() {
+        let b = bus(y.row, t, n);
+        let k = bus(y.col, t, n);
+        let x = Complex::new(y.re[t], y.im[t]) * v[k];
+        i[b] = i[b] + x;
     }
-    Column { re, im }
+    i
 }
 
 // Voltages from magnitudes and angles, and the currents that they drive.
-pub fn bus_phasors(
-    n: usize,
-    y_row: &[usize],
-    y_col: &[usize],
-    y_re: &[f64],
-    y_im: &[f64],
-    vm: [f64; 32],
-    va: [f64; 32],
-) -> Phasors
-    requires { let y : Triplets = triplets_of y_row.now y_col.now y_re.now y_im.now in
-        GoodTriplets n y }
-    ensures { let y : Triplets = triplets_of y_row.now y_col.now y_re.now y_im.now in
-        result ≡ phasors_of n y vm va }
+pub fn bus_phasors(n: usize, y: TripletColumns, p: Point) -> Phasors
+    requires { GoodTriplets n (triplets_in y) }
+    ensures { result ≡ phasors_of n (triplets_in y.entry) p.vm p.va }
 {
-    let v = voltages(n, vm, va);
-    let i = currents(n, y_row, y_col, y_re, y_im, v);
+    let v = voltages(n, p);
+    let i = currents(n, y, v);
     Phasors { v, i }
 }
 
@@ -119,35 +89,22 @@ pub fn bus_powers(n: usize, s: Phasors) -> Injected
     requires { n ≤ 32 }
     ensures { result ≡ injected_of n s }
 {
-    let v = s.v;
-    let i = s.i;
     let mut p = [0.0; 32];
     let mut q = [0.0; 32];
     for b in 0..n {
-        let current = Complex::new(i.re[b], i.im[b]);
-        let against = current.conjugate();
-        let x = Complex::new(v.re[b], v.im[b]).product(against);
+        let against = s.i[b].conjugate();
+        let x = s.v[b] * against;
         p[b] = x.re;
         q[b] = x.im;
     }
     Injected { p, q }
 }
 
-pub fn ac_injections(
-    n: usize,
-    y_row: &[usize],
-    y_col: &[usize],
-    y_re: &[f64],
-    y_im: &[f64],
-    vm: [f64; 32],
-    va: [f64; 32],
-) -> Injections
-    requires { let y : Triplets = triplets_of y_row.now y_col.now y_re.now y_im.now in
-        GoodTriplets n y }
-    ensures { let y : Triplets = triplets_of y_row.now y_col.now y_re.now y_im.now in
-        result ≡ injections_of n y vm va }
+pub fn ac_injections(n: usize, y: TripletColumns, p: Point) -> Injections
+    requires { GoodTriplets n (triplets_in y) }
+    ensures { result ≡ injections_of n (triplets_in y.entry) p.vm p.va }
 {
-    let phasors = bus_phasors(n, y_row, y_col, y_re, y_im, vm, va);
+    let phasors = bus_phasors(n, y, p);
     let power = bus_powers(n, phasors);
     Injections { phasors, power }
 }
@@ -158,16 +115,16 @@ pub fn ac_injections(
 fn angle_on_diagonal(y: Complex, v: Complex, c: Complex) -> Complex
     ensures { result ≡ angle_on y v c }
 {
-    let against = c.difference(y.product(v)).conjugate();
-    Complex::I.product(v).product(against)
+    let against = (c - y * v).conjugate();
+    Complex::I * v * against
 }
 
 // v is the voltage at the triplet's row, vk that at its column.
 fn angle_off_diagonal(y: Complex, v: Complex, vk: Complex) -> Complex
     ensures { result ≡ angle_off y v vk }
 {
-    let against = y.product(vk).conjugate();
-    Complex::I.negation().product(v).product(against)
+    let against = (y * vk).conjugate();
+    -Complex::I * v * against
 }
 
 // By a magnitude: u is the voltage of magnitude one at the triplet's column.
@@ -176,7 +133,7 @@ fn magnitude_part(y: Complex, v: Complex, u: Complex) -> Complex
 {
     let y_conj = y.conjugate();
     let u_conj = u.conjugate();
-    v.product(y_conj).product(u_conj)
+    v * y_conj * u_conj
 }
 
 fn on_diagonal(y: Complex, v: Complex, c: Complex, u: Complex) -> Derivatives
@@ -184,7 +141,7 @@ fn on_diagonal(y: Complex, v: Complex, c: Complex, u: Complex) -> Derivatives
 {
     let dva = angle_on_diagonal(y, v, c);
     let own = magnitude_part(y, v, u);
-    let dvm = own.sum(c.conjugate().product(u));
+    let dvm = own + c.conjugate() * u;
     Derivatives { dva, dvm }
 }
 
@@ -246,37 +203,26 @@ fn enter_all(w: &mut [f64], p: usize, q: usize, va: usize, vm: usize, d: Derivat
 
 pub fn ac_jacobian(
     n: usize,
-    y_row: &[usize],
-    y_col: &[usize],
-    y_re: &[f64],
-    y_im: &[f64],
+    y: TripletColumns,
     va: [f64; 32],
     s: Phasors,
     layout: AcPfLayout,
     w: &mut [f64],
 )
-    requires { let y : Triplets = triplets_of y_row.now y_col.now y_re.now y_im.now in
-        GoodTriplets n y × (4160 ≤ length w.old) }
-    ensures { let y : Triplets = triplets_of y_row.now y_col.now y_re.now y_im.now in
-        w.new ≡ jacobian_of y va s layout w.old }
+    requires { GoodTriplets n (triplets_in y) × (4160 ≤ length w.old) }
+    ensures { w.new ≡ jacobian_of (triplets_in y.entry) va s layout w.old }
 {
     // Voltages of magnitude one, once for each bus and not for each triplet.
-    let unit = voltages(n, [1.0; 32], va);
-    let v_bus = s.v;
-    let i_bus = s.i;
-    for t in 0..y_row.len() {
-        let i = bus(y_row, t, n);
-        let k = bus(y_col, t, n);
+    let unit = voltages(n, Point { vm: [1.0; 32], va });
+    for t in 0..y.row.len() {
+        let i = bus(y.row, t, n);
+        let k = bus(y.col, t, n);
+        let entry = Complex::new(y.re[t], y.im[t]);
+        let d = derivatives_at(i, k, entry, s.v[i], s.i[i], s.v[k], unit[k]);
         let p_row = layout.va_of[i];
         let q_row = layout.vm_of[i];
         let va_col = layout.va_of[k];
         let vm_col = layout.vm_of[k];
-        let y = Complex::new(y_re[t], y_im[t]);
-        let v = Complex::new(v_bus.re[i], v_bus.im[i]);
-        let c = Complex::new(i_bus.re[i], i_bus.im[i]);
-        let vk = Complex::new(v_bus.re[k], v_bus.im[k]);
-        let u = Complex::new(unit.re[k], unit.im[k]);
-        let d = derivatives_at(i, k, y, v, c, vk, u);
         enter_all(w, p_row, q_row, va_col, vm_col, d);
     }
 }

@@ -8,7 +8,7 @@ ghost use Rattle.network.specs.Network.{RoomBuses, RoomSlacks, RoomGenerators, R
 ghost use Rattle.network.specs.Columns.{buses_in, slacks_in, generators_in, branches_in, triplets_in, network_in, values_in, branch_table_in, branch_network_in};
 ghost use Rattle.network.specs.Columns.{buses_lent, slacks_lent, generators_lent, branches_lent, triplets_lent, network_lent, values_lent, branch_table_lent, branch_network_lent};
 ghost use Rattle.network.specs.Checks.{same3, same7, buses_counted, slacks_counted, generators_counted, branches_counted, triplets_counted, counted};
-ghost use Rattle.network.specs.BranchTable.{values_counted, values_room, branch_table_room, branch_room_of, RoomValues, RoomBranchTable, RoomForBranches, first_values, first_branch_table, first_branch_rows, with_triplets};
+ghost use Rattle.network.specs.BranchTable.{values_counted, values_room, branch_table_room, branch_room_of, RoomValues, RoomBranchTable, RoomForBranches, first_values, first_branch_table, first_branch_rows, with_triplets, no_triplets};
 ghost use Rattle.network.specs.Missing.{in_column, first_field, in_ends, missing_in};
 
 // ---- the columns of a case, lent for reading
@@ -349,6 +349,18 @@ impl BranchColumnsMut<'_> {
 }
 
 impl<'a> TripletColumns<'a> {
+    // No triplets at all.
+    pub fn none() -> TripletColumns<'a>
+        ensures { triplets_in result ≡ no_triplets }
+    {
+        TripletColumns {
+            row: &[],
+            col: &[],
+            re: &[],
+            im: &[],
+        }
+    }
+
     #[tactic(auto, unfolding(real::specs::Tests::both))]
     fn counted(self) -> bool
         ensures { result ≡ triplets_counted (triplets_in self.entry) }

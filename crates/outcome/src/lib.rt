@@ -1,25 +1,27 @@
 // What a solve over tables answers, and what it writes: the refusals, the five answer columns, the workspace.
 #![tactic(auto)]
 
-ghost use Rattle.std.specs.Prelude.{◌≡◌, ◌≤◌, length, get_or};
-ghost use Rattle.std.specs.Float.{nan};
-ghost use Rattle.layout.specs.Table.{stores};
-ghost use Rattle.real.specs.Paper.{is_given};
-ghost use Rattle.network.specs.Network.{Triplets, triplets_of};
+ghost use Rattle.std.specs.Prelude.{◌≡◌, ◌≤◌, ◌++◌, take, drop, length, get_or};
+ghost use Rattle.network.specs.Columns.{triplets_in};
 ghost use Rattle.injections.specs.Injections.{GoodTriplets};
-ghost use Rattle.outcome.specs.Outcome.{paper_of, Outs, outs, OnePerBus, lengths_of, lengths_in, roomy, row_refusal, bus_refusal, with_answer, zeros, written, write_of};
+ghost use Rattle.outcome.specs.Outcome.{paper_of, outs_lent, SameOuts, OnePerBus, lengths_in, roomy, row_refusal, bus_refusal, with_answer, zeros, written, write_of};
 
-use layout::Point;
-use moves::KindAt;
-use network::{MissingBus, Naming};
+use layout::{BusKind, Point};
+use network::{MissingBus, Naming, TripletColumns};
 use pf_ac::AcPf;
 
-// What the calls answer. Each refusal is one of the papers': Counts is 7, Room 9, Slack 8, Generator 11, Branch 12, Triplet 13, Tap 14, Ends 15,
-// NotConverged 10. A row is the lowest of its table that is at fault, a field the first of that row that names a missing bus, 0 or 1. Triplet is for tables
-// with triplets alone, Tap and Ends for tables of branches.
-#[derive(Clone, Copy)]
-pub enum Outcome {
-    Solved { iterations: usize, residual: f64 },
+// A solved answer: the steps that Newton accepted, and the mismatch that is left.
+#[derive(Clone, Copy, Debug, PartialEq)]
+pub struct Solved {
+    pub iterations: usize,
+    pub residual: f64,
+}
+
+// The papers' refusals: Counts is 7, Room 9, Slack 8, Generator 11, Branch 12, Triplet 13, Tap 14, Ends 15, NotConverged 10. A row is the lowest of its
+// table that is at fault, a field the first of that row that names a missing bus, 0 or 1. Triplet is for tables with triplets alone, Tap and Ends for tables
+// of branches.
+#[derive(Clone, Copy, Debug, PartialEq)]
+pub enum Refusal {
     Counts,
     Room,
     Slack { row: usize },
@@ -31,163 +33,120 @@ pub enum Outcome {
     NotConverged { mismatch: f64, starts: usize },
 }
 
-// Whether the tables were solved.
-pub fn solved(r: Outcome) -> bool
-    ensures { result ≡ is_given (paper_of r) }
-{
-    match r {
-        Outcome::Solved { .. } => true,
-        _ => false,
-    }
+// The five answer columns, lent for writing.
+#[derive(Drop)]
+pub struct AnswerColumnsMut<'a> {
+    pub vm: &'a mut [f64],
+    pub va: &'a mut [f64],
+    pub p: &'a mut [f64],
+    pub q: &'a mut [f64],
+    pub kinds: &'a mut [u8],
 }
 
 // ---- the checks
 
-// Refusal 9, of the lengths of the answer columns and the workspace.
-pub fn roomy(n: usize, vm: usize, va: usize, p: usize, q: usize, kinds: usize, w: usize) -> bool
-    ensures { result ≡ roomy n (lengths_of vm va p q kinds) w }
-{
-    real::and(
-        n <= vm,
-        real::and(
-            n <= va,
-            real::and(n <= p, real::and(n <= q, real::and(n <= kinds, 6144 <= w))),
-        ),
-    )
-}
-
-// What the checks answer.
-#[derive(Clone, Copy)]
-pub enum Checked {
-    Ready,
-    Refused(Outcome),
+impl AnswerColumnsMut<'_> {
+    // Whether each column has a place for each of n buses, and the workspace its w places: refusal 9, where not.
+    #[tactic(auto, unfolding(real::specs::Tests::both, crate::specs::Outcome::roomy))]
+    pub fn roomy(&self, n: usize, w: usize) -> bool
+        ensures { result ≡ roomy n (lengths_in (outs_lent self.now)) w }
+    {
+        (n <= self.vm.len())
+            & ((n <= self.va.len())
+                & ((n <= self.p.len())
+                    & ((n <= self.q.len()) & ((n <= self.kinds.len()) & (6144 <= w)))))
+    }
 }
 
 // The refusal of a row that names a missing bus, by its table: 8, 11, 12 or 13.
-fn row_refusal(table: Naming, row: usize, field: usize) -> Outcome
-    ensures { result ≡ row_refusal table row field }
-{
-    match table {
-        Naming::Slack => Outcome::Slack { row },
-        Naming::Generator => Outcome::Generator { row },
-        Naming::Branch => Outcome::Branch { row, field },
-        Naming::Triplet => Outcome::Triplet { row, field },
+impl From<MissingBus> for Refusal {
+    ghost from_gives = { λ m r. r ≡ row_refusal m.table m.row m.field };
+
+    fn from(m: MissingBus) -> Refusal {
+        let row = m.row;
+        let field = m.field;
+        match m.table {
+            Naming::Slack => Refusal::Slack { row },
+            Naming::Generator => Refusal::Generator { row },
+            Naming::Branch => Refusal::Branch { row, field },
+            Naming::Triplet => Refusal::Triplet { row, field },
+        }
     }
 }
 
 // The refusal of a missing bus, or none.
-pub fn bus_refusal(m: MissingBus) -> Checked
+pub fn bus_refusal(m: Option<MissingBus>) -> Result<(), Refusal>
     ensures { result ≡ bus_refusal m }
 {
     match m {
-        MissingBus::At { table, row, field } => Checked::Refused(row_refusal(table, row, field)),
-        MissingBus::Nowhere => Checked::Ready,
+        Some(at) => Err(Refusal::from(at)),
+        None => Ok(()),
     }
 }
 
 // ---- what is written
 
 // One place per bus, and none past them.
-fn fill(n: usize, from: [f64; 32], out: &mut [f64])
-    requires { (n ≤ 32) × (n ≤ length out.old) }
-    ensures { out.new ≡ stores (λ b. get_or from b nan) n out.old }
+fn fill<T: Copy>(n: usize, from: &[T], out: &mut [T])
+    requires { (n ≤ length from.now) × (n ≤ length out.old) }
+    ensures { out.new ≡ take n from.now ++ drop n out.old }
 {
-    for b in 0..n {
-        out[b] = from[b];
-    }
-}
-
-fn fill_bytes(n: usize, from: [u8; 32], out: &mut [u8])
-    requires { (n ≤ 32) × (n ≤ length out.old) }
-    ensures { out.new ≡ stores (λ b. get_or from b 0) n out.old }
-{
-    for b in 0..n {
-        out[b] = from[b];
-    }
+    out[..n].copy_from_slice(&from[..n]);
 }
 
 // The five answer columns, with the powers that the voltages carry.
 fn write_answer(
     n: usize,
-    y_row: &[usize],
-    y_col: &[usize],
-    y_re: &[f64],
-    y_im: &[f64],
+    y: TripletColumns,
     point: Point,
-    kept: [KindAt; 32],
-    vm: &mut [f64],
-    va: &mut [f64],
-    p: &mut [f64],
-    q: &mut [f64],
-    kinds: &mut [u8],
+    kept: [BusKind; 32],
+    out: &mut AnswerColumnsMut,
 )
-    requires { let y : Triplets = triplets_of y_row.now y_col.now y_re.now y_im.now in
-        let o : Outs = outs vm.old va.old p.old q.old kinds.old in
-        GoodTriplets n y × OnePerBus n (lengths_in o) }
-    ensures { let y : Triplets = triplets_of y_row.now y_col.now y_re.now y_im.now in
-        let o : Outs = outs vm.old va.old p.old q.old kinds.old in
-        outs vm.new va.new p.new q.new kinds.new ≡ with_answer n y point kept o }
+    requires { GoodTriplets n (triplets_in y) × OnePerBus n (lengths_in (outs_lent out.old)) }
+    ensures written { outs_lent out.new ≡ with_answer n (triplets_in y.entry) point kept (outs_lent out.old) }
+    ensures same_columns { SameOuts out.old out.new }
 {
     let letters = moves::letters(n, kept);
-    let vms = point.vm;
-    let vas = point.va;
-    let found = injections::ac_injections(n, y_row, y_col, y_re, y_im, vms, vas);
-    let power = found.power;
-    let ps = power.p;
-    let qs = power.q;
-    fill(n, vms, vm);
-    fill(n, vas, va);
-    fill(n, ps, p);
-    fill(n, qs, q);
-    fill_bytes(n, letters, kinds);
+    let power = injections::ac_injections(n, y, point).power;
+    fill(n, &point.vm, out.vm);
+    fill(n, &point.va, out.va);
+    fill(n, &power.p, out.p);
+    fill(n, &power.q, out.q);
+    fill(n, &letters, out.kinds);
 }
 
 // The whole workspace, however long, is zeros.
+#[tactic(auto, unfolding(crate::specs::Outcome::zeros))]
 pub fn zero(w: &mut [f64])
     ensures { w.new ≡ zeros w.old }
 {
-    for i in 0..w.len() {
-        w[i] = 0.0;
-    }
+    w.fill(0.0);
 }
 
 // Answers, and writes the columns of a solved one.
 pub fn write(
     n: usize,
-    y_row: &[usize],
-    y_col: &[usize],
-    y_re: &[f64],
-    y_im: &[f64],
+    y: TripletColumns,
     found: AcPf,
     point: Point,
-    kept: [KindAt; 32],
-    vm: &mut [f64],
-    va: &mut [f64],
-    p: &mut [f64],
-    q: &mut [f64],
-    kinds: &mut [u8],
-) -> Outcome
-    requires { let y : Triplets = triplets_of y_row.now y_col.now y_re.now y_im.now in
-        let o : Outs = outs vm.old va.old p.old q.old kinds.old in
-        GoodTriplets n y × OnePerBus n (lengths_in o) }
-    ensures { let y : Triplets = triplets_of y_row.now y_col.now y_re.now y_im.now in
-        let o : Outs = outs vm.old va.old p.old q.old kinds.old in
-        written (paper_of result) (outs vm.new va.new p.new q.new kinds.new)
-        ≡ write_of n y found point kept o }
+    kept: [BusKind; 32],
+    out: &mut AnswerColumnsMut,
+) -> Result<Solved, Refusal>
+    requires { GoodTriplets n (triplets_in y) × OnePerBus n (lengths_in (outs_lent out.old)) }
+    ensures written { written (paper_of result) (outs_lent out.new) ≡ write_of n (triplets_in y.entry) found point kept (outs_lent out.old) }
+    ensures same_columns { SameOuts out.old out.new }
 {
     match found {
         AcPf::Solved {
             iterations,
             residual,
         } => {
-            write_answer(
-                n, y_row, y_col, y_re, y_im, point, kept, vm, va, p, q, kinds,
-            );
-            Outcome::Solved {
+            write_answer(n, y, point, kept, out);
+            Ok(Solved {
                 iterations,
                 residual,
-            }
+            })
         }
-        AcPf::NotConverged { mismatch, starts } => Outcome::NotConverged { mismatch, starts },
+        AcPf::NotConverged { mismatch, starts } => Err(Refusal::NotConverged { mismatch, starts }),
     }
 }

@@ -1,5 +1,5 @@
 -- The lines of a section, and its bytes, checked by 01's digit rule and by 02's: the same check, or one that is moved. Assumes nothing.
-use Rattle.std.specs.Prelude.{◌≡◌, refl, true, false, ◌⊎◌, List, [], ◌∷◌, ◌++◌, map, leb, drop}
+use Rattle.std.specs.Prelude.{◌≡◌, refl, true, false, ◌⊎◌, List, [], ◌∷◌, ◌++◌, map, leb, drop, Ok, Err}
 use Rattle.std.proofs.Common.{sym, ◌∙◌, ⊎_elim, append_assoc, zero-add, drop-drop}
 use Rattle.std.proofs.Math.Path.{ap}
 use Rattle.std.proofs.Math.Bool.{and-false}
@@ -14,27 +14,26 @@ use Rattle.fields.specs.Cut.{pieces}
 use Rattle.fields.specs.Real.{DigitRule, allowed}
 use Rattle.fields.specs.Before.{allowed_before}
 use Rattle.rows.specs.Asked.{size_of}
-use Rattle.rows.specs.Line.{line_by}
+use Rattle.rows.specs.Line.{LineCheck, line_by}
 use Rattle.rows.specs.Rows.{after, section_by, check_by, check_of, ended}
 use Rattle.rows.specs.Printed.{spread, fields_in, field_table}
 use Rattle.rows.specs.Printed.Laws.{join, join-pieces}
 use Rattle.rows.specs.Before.{Freed, Moved}
 use Rattle.rows.specs.declared.Section.{Section}
-use Rattle.rows.specs.declared.Check.{Check}
+use Rattle.rows.specs.declared.Fault.{Fault}
+use Rattle.rows.specs.Rows.{Check}
 use Rattle.rows.specs.Before.Laws.{after-behind, section-behind, MovedField, line_before}
 
 -- ---- the lines of a section
 
 -- a line before those that are checked: where it is good, what was moved of them is moved; where it is refused, so is all
-one-line-more : (s : List ℕ) (z : Section) (fs : List (List ℕ)) (rows : List (List (List ℕ))) (w v v' : Check) (m : Moved s z rows v v')
+one-line-more : (s : List ℕ) (z : Section) (fs : List (List ℕ)) (rows : List (List (List ℕ))) (w : LineCheck) (v v' : Check) (m : Moved s z rows v v')
     → (after w v ≡ after w v') ⊎ ((n : Moved s z (fs ∷ rows) (after w v) (after w v')) × (n.place ≡ m.place))
-one-line-more s z fs rows (Check.Good n) v v' m =
+one-line-more s z fs rows (Ok _) v v' m =
     let f = m.freed in
     let freed : Freed s m.place z (fs ∷ rows) (suc m.row) m.column = record { inside = omega (arith, f.inside); field = f.field; stands = f.stands; refused = f.refused; taken = f.taken } in
     inr (record { place = m.place; was = m.was; row = suc m.row; column = m.column; freed = freed; now = m.now }, refl)
-one-line-more s z fs rows (Check.Rows n) v v' m = inl refl
-one-line-more s z fs rows (Check.Form n) v v' m = inl refl
-one-line-more s z fs rows (Check.Field n) v v' m = inl refl
+one-line-more s z fs rows (Err f) v v' m = inl refl
 
 -- the rows that are read of the lines, and what their check was and is
 abbrev SectionBefore : List ℕ → Section → ℕ → ℕ → List (List ℕ) → Type 0
@@ -50,7 +49,7 @@ module _ (s : List ℕ) (z : Section) (r at : ℕ) (l m : List ℕ) (ms : List (
   unfolding section_by
   section-turn rule q = rw (and-false, q)
 
-  section-full : (rule : DigitRule) → leb (size_of z) r ≡ true → section_by rule z r at (l ∷ m ∷ ms) ≡ Check.Rows at
+  section-full : (rule : DigitRule) → leb (size_of z) r ≡ true → section_by rule z r at (l ∷ m ∷ ms) ≡ Err (Fault.Rows at)
   unfolding section_by
   section-full rule q = rw (and-false, q)
 
@@ -63,7 +62,7 @@ module _ (s : List ℕ) (z : Section) (r at : ℕ) (l m : List ℕ) (ms : List (
         (inr (
           record {
             place = f.place;
-            was = ap (λ (v : Check). after v (section_by allowed_before z (r + 1) (at + length l + 1) (m ∷ ms))) f.was;
+            was = ap (λ (v : LineCheck). after v (section_by allowed_before z (r + 1) (at + length l + 1) (m ∷ ms))) f.was;
             row = 0;
             column = f.i;
             freed = record { inside = zero-lt-suc _; field = f.inside; stands = f.stands; refused = rw (zero-add f.i) at f.refused; taken = rw (zero-add f.i) at f.taken };

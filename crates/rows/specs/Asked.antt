@@ -1,8 +1,8 @@
 -- What 01, and for K 02's Ask 3, asks of each section: its letter, its fields, its table's size. A section more is a clause more in each of these.
-use Rattle.std.specs.Prelude.{ℕ, Bool, cond, ◌||◌, List, eqb, leb}
+use Rattle.std.specs.Prelude.{ℕ, Bool, cond, ◌||◌, List, eqb, leb, is_some}
 use Rattle.fields.specs.Cut.{only}
-use Rattle.fields.specs.Digits.{bus_of, is_number}
-use Rattle.fields.specs.Real.{DigitRule, allowed, real_by, or_nan_by, is_real}
+use Rattle.fields.specs.Digits.{bus_of}
+use Rattle.fields.specs.Real.{DigitRule, allowed, real_by, or_nan_by}
 use Rattle.rows.specs.declared.Section.{Section}
 use Rattle.rows.specs.declared.Want.{Want}
 
@@ -49,9 +49,9 @@ want_of Section.K j = ends_first j
 
 -- whether a field is what is asked, its reals by a digit rule; "kind V (PV) or Q"
 abbrev pub good_by : DigitRule → Want → List ℕ → Bool
-good_by rule Want.Plain f = is_real (real_by rule f)
-good_by rule Want.Stored f = is_real (or_nan_by rule f)
-good_by rule Want.Bus f = is_number (bus_of f)
+good_by rule Want.Plain f = is_some (real_by rule f)
+good_by rule Want.Stored f = is_some (or_nan_by rule f)
+good_by rule Want.Bus f = is_some (bus_of f)
 good_by rule Want.Kind f = only 86 f || only 81 f
 
 abbrev pub good_of : Want → List ℕ → Bool

@@ -2,11 +2,9 @@
 -- edition: "a small `f` or `c` and five starts (B, R, G, K, itself), 32 bytes in all". It starts at the place t. What holds of any count of groups is said of k
 -- groups; the editions' counts stand in `groups_of` alone.
 pub mod Laws
-use Rattle.std.specs.Prelude.{ℕ, zero, suc, ◌+◌, ◌-◌, ◌*◌, ◌<◌, Bool, cond, ◌&&◌, ◌||◌, List, eqb, leb, length, get_or}
+use Rattle.std.specs.Prelude.{ℕ, zero, suc, ◌+◌, ◌-◌, ◌*◌, ◌<◌, Bool, cond, ◌&&◌, ◌||◌, List, eqb, leb, length, get_or, None, Option, Some, is_some}
 use Rattle.std.proofs.Math.Seq.{slice}
-use Rattle.fields.specs.Digits.{digits_of, is_number, number_in}
-use Rattle.fields.specs.declared.Digits.{Digits}
-use Rattle.fields.specs.declared.Digits.TheVariants as Digits
+use Rattle.fields.specs.Digits.{digits_of, number_in}
 use Rattle.rows.specs.declared.Section.{Section}
 use Rattle.rows.specs.declared.Section.TheVariants as Section
 use Rattle.trailer.specs.declared.Edition.{Edition}
@@ -33,8 +31,8 @@ abbrev pub trailer_start : Edition → List ℕ → ℕ
 trailer_start e s = length s - trailer_length e
 
 -- "a space and five digits", at a place
-abbrev pub group_at : List ℕ → ℕ → Digits
-group_at s at = cond (eqb (get_or s at 0) 32) (digits_of 0 (slice (at + 1) (at + 6) s)) Digits.Other
+abbrev pub group_at : List ℕ → ℕ → Option ℕ
+group_at s at = cond (eqb (get_or s at 0) 32) (digits_of 0 (slice (at + 1) (at + 6) s)) None
 
 -- the number of a group
 abbrev pub start_at : List ℕ → ℕ → ℕ
@@ -47,7 +45,7 @@ group_number s t j = start_at s (t + 1 + 6 * j)
 -- so many groups from a place on, their numbers from `low` on: "they never fall", and the last is `end`
 unfoldable pub rising_of : ℕ → List ℕ → ℕ → ℕ → ℕ → Bool
 rising_of zero s at low end = eqb low end
-rising_of (suc k) s at low end = is_number (group_at s at) && (leb low (start_at s at) && rising_of k s (at + 6) (start_at s at) end)
+rising_of (suc k) s at low end = is_some (group_at s at) && (leb low (start_at s at) && rising_of k s (at + 6) (start_at s at) end)
 
 -- "`F` (flat) or `C` (case start)"; "a small `f` or `c`"
 abbrev pub flat_letter : Edition → ℕ
@@ -63,6 +61,10 @@ flagged e b = eqb b (flat_letter e) || eqb b (case_letter e)
 
 abbrev pub mode_of : Edition → ℕ → AcStart
 mode_of e b = cond (eqb b (flat_letter e)) Flat Case
+
+-- the start that a byte asks for, where it is a flag
+abbrev pub asked_of : Edition → ℕ → Option AcStart
+asked_of e b = cond (flagged e b) (Some (mode_of e b)) None
 
 -- "The byte 32 from the end decides: `f` or `c` there means this edition."
 unfoldable pub edition_of : List ℕ → Edition

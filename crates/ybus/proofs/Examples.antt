@@ -2,6 +2,7 @@
 -- fractions. The branch that is off has its entries, zeros with their signs. Assumes nothing.
 use mathlib.Core.Path.{◌≡◌, refl}
 use mathlib.Core.List.{[], ◌∷◌}
+use Rattle.std.specs.Prelude.{Some, None}
 use lib.Ieee.{nan, add, sub, mul, div, neg, lt, is_nan, of_int, of_bits}
 use Rattle.real.specs.Literals.{lit, nought, one}
 use Rattle.real.specs.Each.{each}
@@ -11,7 +12,7 @@ use Rattle.real.specs.First.{first_below}
 use Rattle.network.specs.Network.{branches_of, triplets_of}
 use Rattle.network.specs.BranchTable.{BranchTable, values_of, branch_table_of}
 use Rattle.ybus.specs.Branch.{y_ff, y_ft, y_tf, y_tt}
-use Rattle.ybus.specs.declared.Fault.TheVariants.{Tap, Ends, Nothing}
+use Rattle.ybus.specs.declared.Fault.TheVariants.{Tap, Ends}
 use Rattle.ybus.specs.Fault.{fault_at, fault_of}
 use Rattle.ybus.specs.Listed.{listed}
 use Rattle.ybus.specs.Ybus.{diagonal, ybus_of}
@@ -42,14 +43,14 @@ unfolding ybus_of diagonal listed each y_ff y_ft y_tf y_tt sin_cos_of absolute a
 list-of-three = refl
 
 -- row by row, the tap first: a NaN tap in a row whose ends meet, below a row that passes; and ends that meet above a tap of zero
-pub nan-tap : fault_of (branches_of (0 ∷ 1 ∷ []) (1 ∷ 1 ∷ [])) (one ∷ nan ∷ []) ≡ Tap 1
+pub nan-tap : fault_of (branches_of (0 ∷ 1 ∷ []) (1 ∷ 1 ∷ [])) (one ∷ nan ∷ []) ≡ Some (Tap 1)
 unfolding first_below fault_at lt of_bits
 nan-tap = refl
 
-pub ends_above : fault_of (branches_of (0 ∷ 2 ∷ 1 ∷ []) (1 ∷ 2 ∷ 0 ∷ [])) (one ∷ one ∷ nought ∷ []) ≡ Ends 1
+pub ends_above : fault_of (branches_of (0 ∷ 2 ∷ 1 ∷ []) (1 ∷ 2 ∷ 0 ∷ [])) (one ∷ one ∷ nought ∷ []) ≡ Some (Ends 1)
 unfolding first_below fault_at lt of_bits
 ends_above = refl
 
-pub all_pass : fault_of (branches_of (0 ∷ 1 ∷ []) (1 ∷ 2 ∷ [])) (one ∷ one ∷ []) ≡ Nothing
+pub all_pass : fault_of (branches_of (0 ∷ 1 ∷ []) (1 ∷ 2 ∷ [])) (one ∷ one ∷ []) ≡ None
 unfolding first_below fault_at lt of_bits
 all_pass = refl

@@ -1,17 +1,15 @@
 -- 02, Ask 3: "Refusals: 14 tap not above zero, 15 a branch from a bus to itself, each with its row, .. row by row with 14 first". Branches that are off are
 -- looked at like the others.
 pub mod Laws
-use Rattle.std.specs.Prelude.{ℕ, Bool, not, ◌||◌, cond, List, eqb, length, get_or, Float}
+use Rattle.std.specs.Prelude.{ℕ, Bool, not, ◌||◌, cond, List, eqb, length, get_or, Float, Option, Some, None}
 use Rattle.std.specs.Float.{nan}
 use Rattle.std.specs.Float.Ieee.{lt}
 use Rattle.real.specs.Literals.{nought}
 use Rattle.real.specs.First.{first_below}
-use Rattle.real.specs.declared.First.{First}
-use Rattle.real.specs.declared.First.TheVariants.{At, Nowhere}
 use Rattle.network.specs.Network.{Branches}
 use Rattle.ybus.specs.Branch.{from_of, to_of}
 use Rattle.ybus.specs.declared.Fault.{Fault}
-use Rattle.ybus.specs.declared.Fault.TheVariants.{Tap, Ends, Nothing}
+use Rattle.ybus.specs.declared.Fault.TheVariants.{Tap, Ends}
 
 -- not above zero, as a NaN is not
 abbrev pub not_above : Float → Bool
@@ -34,10 +32,10 @@ module _ (ends : Branches) (tap : List Float) where
   abbrev pub row_fails : ℕ → Bool
   row_fails e = tap_fails e || ends_meet e
 
-  unfoldable pub fault_at : First → Fault
-  fault_at (At e) = row_fault e (get_or tap e nan)
-  fault_at Nowhere = Nothing
+  unfoldable pub fault_at : Option ℕ → Option Fault
+  fault_at (Some e) = Some (row_fault e (get_or tap e nan))
+  fault_at None = None
 
   -- row by row
-  abbrev pub fault_of : Fault
+  abbrev pub fault_of : Option Fault
   fault_of = fault_at (first_below (length ends.from) row_fails)

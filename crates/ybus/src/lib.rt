@@ -6,15 +6,16 @@ ghost use Rattle.real.specs.First.{first_below};
 ghost use Rattle.network.specs.Below.{Below};
 ghost use Rattle.network.specs.Network.{branches_of};
 ghost use Rattle.network.specs.Checks.{SizedBranches};
-ghost use Rattle.network.specs.BranchTable.{Values, BranchTable, values_of, branch_table_of, SizedValues};
+ghost use Rattle.network.specs.BranchTable.{Values, branch_table_of, SizedValues};
+ghost use Rattle.network.specs.Columns.{branches_in, triplets_in, values_in};
 ghost use Rattle.layout.specs.Table.{stores};
 ghost use Rattle.ybus.specs.Branch.{branch_at, admittance_of};
 ghost use Rattle.ybus.specs.Listed.{pairs};
-ghost use Rattle.ybus.specs.Ybus.{Fit, entries_of, admittances_of, sums_to, bus_column, diagonal_parts, with_branches};
+ghost use Rattle.ybus.specs.Ybus.{Fit, entries_of, admittances_of, sums_to, bus_column, diagonal_parts, with_branches, list_in};
 ghost use Rattle.ybus.specs.Fault.{row_fails, row_fault, fault_of};
 
 use complex::Complex;
-use real::First;
+use network::{BranchColumns, TripletColumns, ValueColumns};
 
 // A branch: its series admittance g + jb, the shunts at its two ends, tap and shift, and sw, which multiplies all it gives: 1.0 is on, 0.0 off.
 #[derive(Clone, Copy)]
@@ -56,12 +57,11 @@ pub struct Entries {
     pub im: [f64; 160],
 }
 
-// The first row at fault: 14, its tap is not above zero, or 15, it joins a bus to itself.
-#[derive(Clone, Copy)]
+// What is at fault in a row: 14, its tap is not above zero, or 15, it joins a bus to itself.
+#[derive(Clone, Copy, Debug, PartialEq, Eq)]
 pub enum Fault {
     Tap(usize),
     Ends(usize),
-    Nothing,
 }
 
 // ---- a branch
@@ -74,59 +74,36 @@ pub fn branch_admittance(x: Branch) -> Admittance
     let y_fr = Complex::new(x.g_fr, x.b_fr);
     let y_to = Complex::new(x.g_to, x.b_to);
     let against = t.conjugate();
-    let ff = y.sum(y_fr).divided(x.tap * x.tap).scaled(x.sw);
-    let ft = y.negation().quotient(against).scaled(x.sw);
-    let tf = y.negation().quotient(t).scaled(x.sw);
-    let tt = y.sum(y_to).scaled(x.sw);
+    let ff = (y + y_fr) / (x.tap * x.tap) * x.sw;
+    let ft = -y / against * x.sw;
+    let tf = -y / t * x.sw;
+    let tt = (y + y_to) * x.sw;
     Admittance { ff, ft, tf, tt }
 }
 
 // ---- all branches
 
 // Row e of the columns.
-fn branch_at(
-    e: usize,
-    g: &[f64],
-    b: &[f64],
-    g_fr: &[f64],
-    b_fr: &[f64],
-    g_to: &[f64],
-    b_to: &[f64],
-    tap: &[f64],
-    shift: &[f64],
-    sw: &[f64],
-) -> Branch
-    requires within { let v : Values = values_of g.now b.now g_fr.now b_fr.now g_to.now b_to.now tap.now shift.now sw.now in (e < length v.g) × SizedValues (length v.g) v }
-    ensures { let v : Values = values_of g.now b.now g_fr.now b_fr.now g_to.now b_to.now tap.now shift.now sw.now in result ≡ branch_at v e }
+fn branch_at(e: usize, v: ValueColumns) -> Branch
+    requires within { let w : Values = values_in v in (e < length w.g) × SizedValues (length w.g) w }
+    ensures { result ≡ branch_at (values_in v.entry) e }
 {
     Branch {
-        g: g[e],
-        b: b[e],
-        g_fr: g_fr[e],
-        b_fr: b_fr[e],
-        g_to: g_to[e],
-        b_to: b_to[e],
-        tap: tap[e],
-        shift: shift[e],
-        sw: sw[e],
+        g: v.g[e],
+        b: v.b[e],
+        g_fr: v.g_fr[e],
+        b_fr: v.b_fr[e],
+        g_to: v.g_to[e],
+        b_to: v.b_to[e],
+        tap: v.tap[e],
+        shift: v.shift[e],
+        sw: v.sw[e],
     }
 }
 
-pub fn admittances(
-    g: &[f64],
-    b: &[f64],
-    g_fr: &[f64],
-    b_fr: &[f64],
-    g_to: &[f64],
-    b_to: &[f64],
-    tap: &[f64],
-    shift: &[f64],
-    sw: &[f64],
-) -> [Admittance; 64]
-    requires { let v : Values = values_of g.now b.now g_fr.now b_fr.now g_to.now b_to.now tap.now shift.now sw.now in
-        (length v.g ≤ 64) × SizedValues (length v.g) v }
-    ensures { let v : Values = values_of g.now b.now g_fr.now b_fr.now g_to.now b_to.now tap.now shift.now sw.now in
-        result ≡ admittances_of (length v.g) v }
+pub fn admittances(v: ValueColumns) -> [Admittance; 64]
+    requires { let w : Values = values_in v in (length w.g ≤ 64) × SizedValues (length w.g) w }
+    ensures { let w : Values = values_in v.entry in result ≡ admittances_of (length w.g) w }
 {
     let zero = Complex::ZERO;
     let mut all = [Admittance {
@@ -135,10 +112,8 @@ pub fn admittances(
         tf: zero,
         tt: zero,
     }; 64];
-    for e in 0..g.len() {
-        let x = branch_at(e, g, b, g_fr, b_fr, g_to, b_to, tap, shift, sw);
-        let y = branch_admittance(x);
-        all[e] = y;
+    for e in 0..v.g.len() {
+        all[e] = branch_admittance(branch_at(e, v));
     }
     all
 }
@@ -146,19 +121,16 @@ pub fn admittances(
 // ---- the list
 
 // At each bus, in branch order, the sum of y_ff of the branches from it and of y_tt of those to it.
-fn diagonals(from: &[usize], to: &[usize], y: [Admittance; 64]) -> [Complex; 32]
-    requires { SizedBranches (branches_of from.now to.now) × Below 32 from.now × Below 32 to.now }
-    ensures { result ≡ sums_to (length from.now) (branches_of from.now to.now) y }
+fn diagonals(ends: BranchColumns, y: [Admittance; 64]) -> [Complex; 32]
+    requires { SizedBranches (branches_in ends) × Below 32 ends.from.now × Below 32 ends.to.now }
+    ensures { result ≡ sums_to (length ends.entry.from.now) (branches_in ends.entry) y }
 {
     let mut d = [Complex::new(0.0, 0.0); 32];
-    for e in 0..from.len() {
-        let i = from[e];
-        let k = to[e];
-        let x = y[e];
-        let a = d[i].sum(x.ff);
-        d[i] = a;
-        let b = d[k].sum(x.tt);
-        d[k] = b;
+    for e in 0..ends.from.len() {
+        let i = ends.from[e];
+        let k = ends.to[e];
+        d[i] = d[i] + y[e].ff;
+        d[k] = d[k] + y[e].tt;
     }
     d
 }
@@ -206,9 +178,8 @@ fn diagonal_parts(n: usize, d: [Complex; 32]) -> Parts
     let mut re = [0.0; 160];
     let mut im = [0.0; 160];
     for b in 0..n {
-        let x = d[b];
-        re[b] = x.re;
-        im[b] = x.im;
+        re[b] = d[b].re;
+        im[b] = d[b].im;
     }
     Parts { re, im }
 }
@@ -222,42 +193,24 @@ fn with_branches(n: usize, m: usize, y: [Admittance; 64], parts: Parts) -> Parts
     let mut im = parts.im;
     for e in 0..m {
         let at = n + 2 * e;
-        let x = y[e];
-        re[at] = x.ft.re;
-        re[at + 1] = x.tf.re;
-        im[at] = x.ft.im;
-        im[at + 1] = x.tf.im;
+        re[at] = y[e].ft.re;
+        re[at + 1] = y[e].tf.re;
+        im[at] = y[e].ft.im;
+        im[at + 1] = y[e].tf.im;
     }
     Parts { re, im }
 }
 
 // The list of entries that the branches make: a diagonal entry for each bus, then two entries for each branch.
-pub fn build_ybus(
-    n: usize,
-    from: &[usize],
-    to: &[usize],
-    g: &[f64],
-    b: &[f64],
-    g_fr: &[f64],
-    b_fr: &[f64],
-    g_to: &[f64],
-    b_to: &[f64],
-    tap: &[f64],
-    shift: &[f64],
-    sw: &[f64],
-) -> Entries
-    requires { let t : BranchTable = branch_table_of (branches_of from.now to.now)
-        (values_of g.now b.now g_fr.now b_fr.now g_to.now b_to.now tap.now shift.now sw.now) in
-        Fit n t }
-    ensures { let t : BranchTable = branch_table_of (branches_of from.now to.now)
-        (values_of g.now b.now g_fr.now b_fr.now g_to.now b_to.now tap.now shift.now sw.now) in
-        result ≡ entries_of n t }
+pub fn build_ybus(n: usize, ends: BranchColumns, values: ValueColumns) -> Entries
+    requires { Fit n (branch_table_of (branches_in ends) (values_in values)) }
+    ensures { result ≡ entries_of n (branch_table_of (branches_in ends.entry) (values_in values.entry)) }
 {
-    let m = from.len();
-    let y = admittances(g, b, g_fr, b_fr, g_to, b_to, tap, shift, sw);
-    let d = diagonals(from, to, y);
-    let row = bus_column(n, from, to);
-    let col = bus_column(n, to, from);
+    let m = ends.from.len();
+    let y = admittances(values);
+    let d = diagonals(ends, y);
+    let row = bus_column(n, ends.from, ends.to);
+    let col = bus_column(n, ends.to, ends.from);
     let parts = with_branches(n, m, y, diagonal_parts(n, d));
     let re = parts.re;
     let im = parts.im;
@@ -270,19 +223,34 @@ pub fn build_ybus(
     }
 }
 
+impl Entries {
+    // The list: the first places of each column.
+    pub fn triplets(&self) -> TripletColumns<'_>
+        requires { self.now.count ≤ 160 }
+        ensures { triplets_in result ≡ list_in self.now }
+    {
+        TripletColumns {
+            row: &self.row[..self.count],
+            col: &self.col[..self.count],
+            re: &self.re[..self.count],
+            im: &self.im[..self.count],
+        }
+    }
+}
+
 // ---- refusals 14 and 15
 
 // The first row at fault, one way or the other.
-fn first_fault(from: &[usize], to: &[usize], tap: &[f64]) -> First
-    requires { (length to.now ≡ length from.now) × (length tap.now ≡ length from.now) }
-    ensures { result ≡ first_below (length from.now) (row_fails (branches_of from.now to.now) tap.now) }
+fn first_fault(ends: BranchColumns, tap: &[f64]) -> Option<usize>
+    requires { (length ends.to.now ≡ length ends.from.now) × (length tap.now ≡ length ends.from.now) }
+    ensures { result ≡ first_below (length ends.entry.from.now) (row_fails (branches_in ends.entry) tap.now) }
 {
-    let mut found = First::Nowhere;
-    for e in 0..from.len() {
-        let fails = real::or(!(tap[e] > 0.0), from[e] == to[e]);
-        found = real::earlier(found, real::if_at(fails, e));
+    for e in 0..ends.from.len() {
+        if !(tap[e] > 0.0) | (ends.from[e] == ends.to[e]) {
+            return Some(e);
+        }
     }
-    found
+    None
 }
 
 // The fault of a row at fault: its tap's first.
@@ -296,13 +264,10 @@ fn row_fault(row: usize, tap: f64) -> Fault
 }
 
 // The lowest branch at fault, if any: its tap is not above zero, or its ends are one bus.
-pub fn branch_fault(from: &[usize], to: &[usize], tap: &[f64]) -> Fault
-    requires { (length to.now ≡ length from.now) × (length tap.now ≡ length from.now) }
-    ensures { result ≡ fault_of (branches_of from.now to.now) tap.now }
+pub fn branch_fault(ends: BranchColumns, tap: &[f64]) -> Option<Fault>
+    requires { (length ends.to.now ≡ length ends.from.now) × (length tap.now ≡ length ends.from.now) }
+    ensures { result ≡ fault_of (branches_in ends.entry) tap.now }
 {
-    let found = first_fault(from, to, tap);
-    match found {
-        First::At(row) => row_fault(row, tap[row]),
-        First::Nowhere => Fault::Nothing,
-    }
+    let row = first_fault(ends, tap)?;
+    Some(row_fault(row, tap[row]))
 }

@@ -1,6 +1,6 @@
 -- A line's field by its number; a column's turns, for any kind of element; that a column's rows are its section's lines; and that a field read as a real
 -- or `?` is the real, where it is one. Assumes nothing.
-use Rattle.std.specs.Prelude.{◌≡◌, refl, true, false, List, [], ◌∷◌, ℕ, zero, suc, ◌+◌, ◌-◌, ◌≤◌, ◌<◌, length, get_or, set, take}
+use Rattle.std.specs.Prelude.{◌≡◌, refl, true, false, List, [], ◌∷◌, ℕ, zero, suc, ◌+◌, ◌-◌, ◌≤◌, ◌<◌, length, get_or, set, take, is_some}
 use Rattle.std.proofs.Common.{sym, ap, ◌∙◌, ⊎_elim, arith, add-one, length-set}
 use Rattle.std.proofs.lemmas.List.{length-map}
 use Rattle.std.proofs.Math.ListN.{get_or-map}
@@ -10,9 +10,9 @@ use Rattle.fields.specs.Cut.{only, has, pieces, Found}
 use Rattle.fields.specs.Cut.Laws.{only-is}
 use Rattle.real.specs.Tests.{decided, true-false, below_or}
 use Rattle.fields.specs.Digits.{digits}
-use Rattle.fields.specs.Real.{amount_by, real_of, or_nan_of, is_real}
+use Rattle.fields.specs.Real.{amount_by, real_of, or_nan_of}
 use Rattle.rows.specs.Rows.{rows_of}
-use Rattle.rows.specs.Rows.Laws.{rows_more, rows-room, rows_last, rows_end}
+use Rattle.rows.specs.Rows.Laws.{rows_more, rows-room, rows_last}
 use Rattle.columns.specs.Columns.{row_count, number_field, column_of, filled}
 
 -- ---- a field by its number
@@ -35,6 +35,10 @@ module _ (s : List ℕ) (i e q k : ℕ) (f : Found s i e 32 q) where
   pub piece-on : (k ≡ 0 → ⊥) → q < e → get_or (pieces 32 (slice i e s)) k [] ≡ get_or (pieces 32 (slice (q + 1) e s)) (k - 1) []
   piece-on g w = rw (f.more w) (get_d-on (slice i q s) (pieces 32 (slice (q + 1) e s)) k g)
 
+no-items : (xs : List (List ℕ)) → length xs ≡ 0 → xs ≡ []
+no-items [] h = refl
+no-items (x ∷ xs) h = absurd (omega arith)
+
 -- ---- a column under way, for any kind of element: r rows are written, and the bytes from i up to e are left
 
 pub record Filling {A : Type 0} (g : List ℕ → A) (s : List ℕ) (a e : ℕ) (old : List A) (i r : ℕ) (out : List A) : Type 0 where
@@ -48,8 +52,9 @@ module _ {A : Type 0} (g : List ℕ → A) (s : List ℕ) (a e : ℕ) (old : Lis
   fill-starts h k = record { within = h; long = refl; room = omega arith; same = refl }
 
   module _ (i r : ℕ) (out : List A) (w : Filling g s a e old i r out) where
-    pub fill-ends : i ≡ e → out ≡ filled g (slice a e s) old
-    fill-ends q = rw (rows_end s i e q) at w.same
+    -- where the column ends no row is left
+    pub fill-full : length out ≤ r → out ≡ filled g (slice a e s) old
+    fill-full q = rw (no-items (rows_of (slice i e s)) (omega (arith, w.room))) at w.same
 
     module _ (p : ℕ) (f : Found s i e 10 p) where
       pub fill_stops : e ≤ p → out ≡ filled g (slice a e s) old
@@ -87,9 +92,9 @@ number-of-line j l i = rw (no_number j) at (get_or-map (number_field j) (rows_of
 
 -- ---- `?` is no real
 
-mark-wrong : (l : List ℕ) → only 63 l ≡ true → is_real (real_of l) ≡ false
+mark-wrong : (l : List ℕ) → only 63 l ≡ true → is_some (real_of l) ≡ false
 unfolding has digits amount_by
 mark-wrong l h = rw (only-is 63 l h)
 
-pub plain_value : (l : List ℕ) → is_real (real_of l) ≡ true → or_nan_of l ≡ real_of l
+pub plain_value : (l : List ℕ) → is_some (real_of l) ≡ true → or_nan_of l ≡ real_of l
 plain_value l h = ⊎_elim (λ q. absurd (true-false h (mark-wrong l q))) (λ q. rw q) (decided (only 63 l))

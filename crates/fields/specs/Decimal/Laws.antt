@@ -1,6 +1,6 @@
 -- A real's value is the decimal that it writes, rounded once: the double nearest to it, ties to even. For the digits that may count are a whole number below
 -- 10^15 and the decimals' power of ten is at most 10^22, so both are doubles, and their quotient is rounded once. Assumes nothing.
-use Rattle.std.specs.Prelude.{◌≡◌, refl, Bool, true, false, cond, List, [], ◌∷◌, ℕ, ◌*◌, ◌^◌, ◌<◌, eqb, Float, length}
+use Rattle.std.specs.Prelude.{◌≡◌, refl, Bool, true, false, cond, List, [], ◌∷◌, ℕ, ◌*◌, ◌^◌, ◌<◌, eqb, Float, length, None, Option, Some}
 use Rattle.std.proofs.Common.{sym, ◌∙◌, ⊎_elim, mul-one, mul_assoc, mul_comm, mul_left_comm, mul-pos, lt_irrefl, zero-mul, arith, lit<, ne_eqb}
 use Rattle.std.proofs.Math.Nat.{one-le-pow}
 use Rattle.std.specs.Float.{nan, inf, fin, Format, binary64}
@@ -19,7 +19,6 @@ use Rattle.fields.specs.Powers.Laws.{power-exact}
 use Rattle.fields.specs.Real.{allowed, value_of, negated_of, amount_by, pointed_by, amount_of, unsigned_of, real_of}
 use Rattle.fields.specs.Real.Laws.{no-digits, too_many, not-whole, not-decimals, few-decimals, number_small}
 use Rattle.fields.specs.Decimal.{has_minus, wholes, decimals, numerator, denominator}
-use Rattle.fields.specs.declared.Real.{Real}
 
 -- ---- a quotient of whole doubles is rounded once
 
@@ -47,9 +46,9 @@ pub record Written (w d : List ℕ) (x : Float) : Type 0 where
   pub rest : digits d ≡ true
   pub value : x ≡ value_of w d
 
-module _ (w d : List ℕ) (x : Float) (h : amount_of w d ≡ Real.Value x) where
-  never : {A : Type 0} → amount_of w d ≡ Real.Wrong → A
-  never g = let e : Real.Value x ≡ Real.Wrong = sym h ∙ g in no-case cc
+module _ (w d : List ℕ) (x : Float) (h : amount_of w d ≡ Some x) where
+  never : {A : Type 0} → amount_of w d ≡ None → A
+  never g = let e : Some x ≡ None = sym h ∙ g in no-case cc
 
   few-written : allowed w d ≡ true
   few-written = ⊎_elim (λ q. q) (λ q. never (too_many allowed w d q)) (decided (allowed w d))
@@ -66,16 +65,16 @@ module _ (w d : List ℕ) (x : Float) (h : amount_of w d ≡ Real.Value x) where
   amount-written : Written w d x
   unfolding amount_by
   amount-written =
-      let e : Real.Value (value_of w d) ≡ Real.Value x = rw (some_written, whole-written, rest-written, few-written) at h in
+      let e : Some (value_of w d) ≡ Some x = rw (some_written, whole-written, rest-written, few-written) at h in
       record { few = few-written; whole = whole-written; rest = rest-written; value = cc }
 
 -- a field without a minus
-unsigned-written : (l : List ℕ) (x : Float) → unsigned_of l ≡ Real.Value x → Written (upto 46 l) (past 46 l) x
+unsigned-written : (l : List ℕ) (x : Float) → unsigned_of l ≡ Some x → Written (upto 46 l) (past 46 l) x
 unsigned-written l x h = ⊎_elim (λ q. pointed-written (rw q at h)) plain (decided (has 46 l))
   where
-    pointed-written : pointed_by allowed l ≡ Real.Value x → Written (upto 46 l) (past 46 l) x
+    pointed-written : pointed_by allowed l ≡ Some x → Written (upto 46 l) (past 46 l) x
     pointed-written g =
-        ⊎_elim (λ e. let f : Real.Wrong ≡ Real.Value x = rw e at g in no-case cc) (λ e. amount-written (upto 46 l) (past 46 l) x (rw e at g)) (decided (empty (past 46 l)))
+        ⊎_elim (λ e. let f : None ≡ Some x = rw e at g in no-case cc) (λ e. amount-written (upto 46 l) (past 46 l) x (rw e at g)) (decided (empty (past 46 l)))
 
     plain : has 46 l ≡ false → Written (upto 46 l) (past 46 l) x
     plain q = rw (has-not 46 l q, past-none 46 l q) (amount-written l [] x (rw q at h))
@@ -97,12 +96,12 @@ written-rounded w d x k =
 
 -- ---- the field
 
-negated-value : (r : Real) (x : Float) → negated_of r ≡ Real.Value x → (y : Float) × (r ≡ Real.Value y) × (x ≡ neg y)
-negated-value (Real.Value y) x h = (y, refl, cc)
-negated-value Real.Wrong x h = no-case cc
+negated-value : (r : Option Float) (x : Float) → negated_of r ≡ Some x → (y : Float) × (r ≡ Some y) × (x ≡ neg y)
+negated-value (Some y) x h = (y, refl, cc)
+negated-value None x h = no-case cc
 
 -- a real's digits, whose value a minus negates
-pub real-written : (l : List ℕ) (x : Float) → real_of l ≡ Real.Value x → (y : Float) × Written (wholes l) (decimals l) y × (x ≡ cond (has_minus l) (neg y) y)
+pub real-written : (l : List ℕ) (x : Float) → real_of l ≡ Some x → (y : Float) × Written (wholes l) (decimals l) y × (x ≡ cond (has_minus l) (neg y) y)
 real-written [] x h = no-case cc
 real-written (b ∷ r) x h = ⊎_elim signed (λ q. (x, rw q (unsigned-written (b ∷ r) x (rw q at h)), rw q)) (decided (eqb b 45))
   where
@@ -114,6 +113,6 @@ signed_round true a b = neg-round binary64 false a b
 signed_round false a b = refl
 
 -- the two numbers that are divided are doubles
-pub real-exact : (l : List ℕ) (x : Float) → real_of l ≡ Real.Value x
+pub real-exact : (l : List ℕ) (x : Float) → real_of l ≡ Some x
     → HasValue (double (numerator l)) false (numerator l) 1 × HasValue (double (denominator l)) false (denominator l) 1
 real-exact l x h = let v = real-written l x h in written-exact (wholes l) (decimals l) v.0 v.1

@@ -1,32 +1,27 @@
 -- The digit rule for all lengths: a digit more, the ends, which digits count, and that no more than 15 count exactly where the number is below 10^15.
 -- Assumes nothing.
-use Rattle.std.specs.Prelude.{◌≡◌, refl, Bool, true, false, cond, ◌&&◌, List, [], ◌∷◌, ◌++◌, ℕ, ◌+◌, ◌-◌, ◌*◌, ◌^◌, ◌≤◌, ◌<◌, eqb, leb, ltb, length, get_or}
+use Rattle.std.specs.Prelude.{◌≡◌, refl, Bool, true, false, cond, ◌&&◌, List, [], ◌∷◌, ◌++◌, ℕ, ◌+◌, ◌-◌, ◌*◌, ◌^◌, ◌≤◌, ◌<◌, eqb, leb, ltb, length, get_or, None, Some}
 use Rattle.std.proofs.Common.{sym, ◌∙◌, ⊎_elim, arith, mul_assoc, mul-le-mul_right, le_trans, lit<}
 use Rattle.std.proofs.Math.Bool.{and-false}
 use Rattle.std.proofs.Math.Nat.{pow-succ', pow-le-pow_right}
 use Rattle.std.proofs.Math.Seq.{slice, slice_empty}
-use borrow.Author.Tests.{eqb-true, eqb-false, le-leb, lt-leb, leb-true, leb-false, lt-ltb, le-ltb, ltb-true, ltb-false}
+use borrow.Author.Tests.{eqb-true, eqb-false, le-leb, leb-true, leb-false, lt-ltb, le-ltb, ltb-true, ltb-false}
 use Rattle.real.specs.Tests.{decided, no-case, and_left, and_right}
 use Rattle.fields.specs.Cut.Laws.{slice-step}
 use Rattle.fields.specs.Digits.{limited_of, digits_of, digits, digit, number, counted}
-use Rattle.fields.specs.declared.Digits.{Digits}
 
 -- ---- from a place on: a byte that is no digit, a digit too many, a digit, the end
 
 module _ (s : List ℕ) (i e m : ℕ) (h : i < e) (k : e ≤ length s) where
-  pub limited-low : get_or s i 0 < 48 → limited_of m (slice i e s) ≡ Digits.Other
+  pub limited-not : digit (get_or s i 0) ≡ false → limited_of m (slice i e s) ≡ None
   unfolding digits
-  limited-low q = rw (slice-step s i e h k, lt-leb 48 (get_or s i 0) q)
+  limited-not q = rw (slice-step s i e h k, q)
 
-  pub limited-high : 57 < get_or s i 0 → limited_of m (slice i e s) ≡ Digits.Other
-  unfolding digits
-  limited-high q = rw (slice-step s i e h k, le-leb 48 (get_or s i 0) (omega arith), lt-leb (get_or s i 0) 57 q)
-
-  pub limited-on : 48 ≤ get_or s i 0 → get_or s i 0 ≤ 57 → limited_of m (slice i e s) ≡ limited_of (m * 10 + (get_or s i 0 - 48)) (slice (i + 1) e s)
+  pub limited-on : digit (get_or s i 0) ≡ true → limited_of m (slice i e s) ≡ limited_of (m * 10 + (get_or s i 0 - 48)) (slice (i + 1) e s)
   unfolding digits number
-  limited-on q r = rw (slice-step s i e h k, le-leb 48 (get_or s i 0) q, le-leb (get_or s i 0) 57 r)
+  limited-on q = rw (slice-step s i e h k, q)
 
-pub limited-end : (s : List ℕ) (i e m : ℕ) → e ≤ i → i ≤ e → m < 10 ^ 15 → limited_of m (slice i e s) ≡ Digits.Number m
+pub limited-end : (s : List ℕ) (i e m : ℕ) → e ≤ i → i ≤ e → m < 10 ^ 15 → limited_of m (slice i e s) ≡ Some m
 unfolding digits number
 limited-end s i e m h k l = let q : e ≡ i = omega arith in rw (q, slice_empty i s, lt-ltb m (10 ^ 15) l)
 
@@ -121,18 +116,18 @@ count-limit l h =
 -- ---- what an answer says of the digits
 
 -- from 10^14 on there is no room for a digit more
-pub limited-full : (s : List ℕ) (i e m : ℕ) → i < e → e ≤ length s → 99999999999999 < m → limited_of m (slice i e s) ≡ Digits.Other
+pub limited-full : (s : List ℕ) (i e m : ℕ) → i < e → e ≤ length s → 99999999999999 < m → limited_of m (slice i e s) ≡ None
 unfolding digits number
 limited-full s i e m h k q =
     let b = get_or s i 0 in
     let r = slice (i + 1) e s in
     rw (slice-step s i e h k, le-ltb (number (m * 10 + (b - 48)) r) (10 ^ 15) (omega (arith, number-grows (m * 10 + (b - 48)) r)), and-false)
 
-number-kept : (b : Bool) (x n : ℕ) → cond b (Digits.Number x) Digits.Other ≡ Digits.Number n → (b ≡ true) × (x ≡ n)
+number-kept : (b : Bool) (x n : ℕ) → cond b (Some x) None ≡ Some n → (b ≡ true) × (x ≡ n)
 number-kept true x n h = (refl, cc)
 number-kept false x n h = no-case cc
 
-lost : (b : Bool) (x : ℕ) → cond b (Digits.Number x) Digits.Other ≡ Digits.Other → b ≡ false
+lost : (b : Bool) (x : ℕ) → cond b (Some x) None ≡ None → b ≡ false
 lost true x h = no-case cc
 lost false x h = refl
 
@@ -140,10 +135,10 @@ module _ (m : ℕ) (l : List ℕ) where
   abbrev small : Bool
   small = ltb (number m l) (10 ^ 15)
 
-  pub limited-other : limited_of m l ≡ Digits.Other → digits l ≡ true → 10 ^ 15 ≤ number m l
+  pub limited-other : limited_of m l ≡ None → digits l ≡ true → 10 ^ 15 ≤ number m l
   limited-other h d = ltb-false (number m l) (10 ^ 15) (rw d at (lost (digits l && small) (number m l) h))
 
-  module _ (n : ℕ) (h : limited_of m l ≡ Digits.Number n) where
+  module _ (n : ℕ) (h : limited_of m l ≡ Some n) where
     taken : (digits l && small ≡ true) × (number m l ≡ n)
     taken = number-kept (digits l && small) (number m l) n h
 
@@ -160,5 +155,5 @@ module _ (m : ℕ) (l : List ℕ) where
 pub limited-short : (l : List ℕ) → length l ≤ 15 → limited_of 0 l ≡ digits_of 0 l
 limited-short l h = ⊎_elim (λ q. rw q (below q)) (λ q. rw q) (decided (digits l))
   where
-    below : digits l ≡ true → cond (ltb (number 0 l) (10 ^ 15)) (Digits.Number (number 0 l)) Digits.Other ≡ Digits.Number (number 0 l)
+    below : digits l ≡ true → cond (ltb (number 0 l) (10 ^ 15)) (Some (number 0 l)) None ≡ Some (number 0 l)
     below q = rw (sym (count-limit l q), le-leb (length (counted l)) 15 (le_trans (counted-le l) h))

@@ -1,6 +1,6 @@
 -- A real's digits at each answer: none before the point, too many, a byte that is no digit, a value; the digit rule as a limit
 -- of the number; and that zeros in front don't matter. Assumes nothing.
-use Rattle.std.specs.Prelude.{◌≡◌, refl, false, List, [], ◌∷◌, ◌++◌, ℕ, zero, suc, ◌^◌, ◌≤◌, ◌<◌, eqb, ltb, length, replicate}
+use Rattle.std.specs.Prelude.{◌≡◌, refl, false, List, [], ◌∷◌, ◌++◌, ℕ, zero, suc, ◌^◌, ◌≤◌, ◌<◌, eqb, ltb, length, replicate, None, Some}
 use Rattle.std.proofs.Common.{sym, ap, ◌∙◌, le_trans, ⊎_elim}
 use Rattle.std.proofs.Math.Bool.{true, and-false}
 use Rattle.std.specs.Float.{binary64}
@@ -13,23 +13,21 @@ use Rattle.fields.specs.Cut.{upto, past, has, empty}
 use Rattle.fields.specs.Digits.{digit, digits, number, limited_of, counted}
 use Rattle.fields.specs.Digits.Laws.{number_append, digits_append, number-grows, count-limit, limited-other, limited-digits, limited-below, limited-number}
 use Rattle.fields.specs.Real.{DigitRule, allowed, amount_by, negated_of, amount_of, unsigned_of, real_of}
-use Rattle.fields.specs.declared.Real.TheVariants as Real
-use Rattle.fields.specs.declared.Digits.TheVariants as Digits
 
-pub no-digits : (d : List ℕ) → amount_of [] d ≡ Real.Wrong
+pub no-digits : (d : List ℕ) → amount_of [] d ≡ None
 unfolding amount_by
 no-digits d = refl
 
 -- by any rule
-pub too_many : (rule : DigitRule) (w d : List ℕ) → rule w d ≡ false → amount_by rule w d ≡ Real.Wrong
+pub too_many : (rule : DigitRule) (w d : List ℕ) → rule w d ≡ false → amount_by rule w d ≡ None
 unfolding amount_by
 too_many rule w d h = rw (h, and-false, and-false, and-false)
 
-pub not-whole : (w d : List ℕ) → digits w ≡ false → amount_of w d ≡ Real.Wrong
+pub not-whole : (w d : List ℕ) → digits w ≡ false → amount_of w d ≡ None
 unfolding amount_by
 not-whole w d h = rw (h, and-false)
 
-pub not-decimals : (w d : List ℕ) → digits d ≡ false → amount_of w d ≡ Real.Wrong
+pub not-decimals : (w d : List ℕ) → digits d ≡ false → amount_of w d ≡ None
 unfolding amount_by
 not-decimals w d h = rw (h, and-false, and-false)
 
@@ -45,7 +43,7 @@ module _ (w d : List ℕ) where
   few-decimals h = leb-true (length d) 22 (and_right (leb (length (counted (w ++ d))) 15) _ h)
 
   -- whatever the digits are
-  pub many-decimals : 22 < length d → amount_of w d ≡ Real.Wrong
+  pub many-decimals : 22 < length d → amount_of w d ≡ None
   unfolding allowed
   many-decimals h = too_many allowed w d (rw (lt-leb (length d) 22 h, and-false))
 
@@ -57,35 +55,35 @@ module _ (w d : List ℕ) where
     unfolding allowed
     number_small h = ltb-true (number (number 0 w) d) (10 ^ 15) (sym limit ∙ and_left _ (leb (length d) 22) h)
 
-    number-large : 10 ^ 15 ≤ number (number 0 w) d → amount_of w d ≡ Real.Wrong
+    number-large : 10 ^ 15 ≤ number (number 0 w) d → amount_of w d ≡ None
     unfolding allowed
     number-large h = too_many allowed w d (rw (limit, le-ltb (number (number 0 w) d) (10 ^ 15) h))
 
 -- ---- the ways of the code: the digits before the point as a number, and those behind it after that
 
 module _ (w d : List ℕ) where
-  pub whole-wrong : limited_of 0 w ≡ Digits.Other → amount_of w d ≡ Real.Wrong
+  pub whole-wrong : limited_of 0 w ≡ None → amount_of w d ≡ None
   whole-wrong h = ⊎_elim (λ p. ⊎_elim (large p) (not-decimals w d) (decided (digits d))) (not-whole w d) (decided (digits w))
     where
-      large : digits w ≡ true → digits d ≡ true → amount_of w d ≡ Real.Wrong
+      large : digits w ≡ true → digits d ≡ true → amount_of w d ≡ None
       large p q = number-large w d p q (le_trans (limited-other 0 w h p) (number-grows (number 0 w) d))
 
-  module _ (n : ℕ) (h : limited_of 0 w ≡ Digits.Number n) where
-    pub rest-wrong : limited_of n d ≡ Digits.Other → amount_of w d ≡ Real.Wrong
+  module _ (n : ℕ) (h : limited_of 0 w ≡ Some n) where
+    pub rest-wrong : limited_of n d ≡ None → amount_of w d ≡ None
     rest-wrong g =
         ⊎_elim (λ q. number-large w d (limited-digits 0 w n h) q (rw (limited-number 0 w n h) (limited-other n d g q))) (not-decimals w d) (decided (digits d))
 
     pub first_below_lem : n < 10 ^ 15
     first_below_lem = rw (limited-number 0 w n h) at (limited-below 0 w n h)
 
-    module _ (m : ℕ) (g : limited_of n d ≡ Digits.Number m) where
+    module _ (m : ℕ) (g : limited_of n d ≡ Some m) where
       pub second_below : m < 10 ^ 15
       second_below = rw (limited-number n d m g) at (limited-below n d m g)
 
       is : number (number 0 w) d ≡ m
       is = rw (limited-number 0 w n h) (limited-number n d m g)
 
-      pub value : empty w ≡ false → length d ≤ 22 → amount_of w d ≡ Real.Value (div binary64 (double m) (double (10 ^ length d)))
+      pub value : empty w ≡ false → length d ≤ 22 → amount_of w d ≡ Some (div binary64 (double m) (double (10 ^ length d)))
       unfolding amount_by allowed
       value e k =
           let p = limited-digits 0 w n h in
@@ -122,6 +120,6 @@ zeros-in-front n b r h = (plain n, ap negated_of (unsigned-zeros n b r h))
     plain (suc n) = unsigned-zeros (suc n) b r h ∙ rw (not-other b 45 h refl)
 
 -- and zeros alone are 0, however many
-pub zeros-alone : (n : ℕ) → real_of (replicate n 48 ++ (48 ∷ [])) ≡ Real.Value nought
+pub zeros-alone : (n : ℕ) → real_of (replicate n 48 ++ (48 ∷ [])) ≡ Some nought
 unfolding of_bits div of_int has digits number counted allowed amount_by
 zeros-alone n = (zeros-in-front n 48 [] refl).0

@@ -30,11 +30,7 @@ loop-t-preserved c =
             ← c.bus-i.ensures.0,
             ← c.bus-k.ensures.0,
             ← h _ c.bus-k.ensures.1,
-            ← c.new-u.ensures,
-            ← c.new-vk.ensures,
-            ← c.new-c.ensures,
-            ← c.new-v.ensures,
-            ← c.new-y.ensures,
+            ← c.new-entry.ensures,
             ← c.derivatives_at-d.ensures,
           ) c.enter_all.ensures,
     )
@@ -43,5 +39,5 @@ pub returns : goal.returns
 returns c =
     let l = c.loop-t in
     let va = c.args.va in
-    let e : l.t ≡ length c.args.y_row.now = omega arith in
+    let e : l.t ≡ length c.args.y.row.now = omega arith in
     rw e at (l.invariant.3 va (λ b h. rw c.voltages-unit.ensures (unit-at _ va b h c.requires.0.few)))

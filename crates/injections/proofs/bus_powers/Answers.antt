@@ -6,12 +6,10 @@ use Rattle.injections.proofs.bus_powers.Goals as goal
 
 pub loop-b-preserved : goal.loop-b-preserved
 loop-b-preserved c =
-    let v = c.new.ensures in
     let against = c.conjugate-against.ensures in
-    let i = c.new-current.ensures in
     let l = c.loop-b in (
-      stored_next l.invariant.0 (omega arith) (rw (c.product-x.ensures, v, against, i)),
-      stored_next l.invariant.1 (omega arith) (rw (c.product-x.ensures, v, against, i)),
+      stored_next l.invariant.0 (omega arith) (rw (c.mul-x.ensures, against)),
+      stored_next l.invariant.1 (omega arith) (rw (c.mul-x.ensures, against)),
     )
 
 pub loop-b-init : goal.loop-b-init

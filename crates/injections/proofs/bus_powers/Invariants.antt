@@ -7,8 +7,8 @@ use Rattle.injections.specs.Injections.{power_at}
 use Rattle.injections.proofs.bus_powers.Given as goal
 
 abbrev pub invariant-loop-b : goal.invariant-loop-b
-invariant-loop-b l = Stored (λ k. (power_at (record { v = l.v; i = l.i }) k).re) (replicate 32 nought) l.n l.b l.p
-    × Stored (λ k. (power_at (record { v = l.v; i = l.i }) k).im) (replicate 32 nought) l.n l.b l.q
+invariant-loop-b l = Stored (λ k. (power_at l.s k).re) (replicate 32 nought) l.n l.b l.p
+    × Stored (λ k. (power_at l.s k).im) (replicate 32 nought) l.n l.b l.q
 
 abbrev pub decreases-loop-b : goal.decreases-loop-b
 decreases-loop-b l = l.n - l.b

@@ -5,12 +5,12 @@ use Rattle.injections.specs.Injections.{voltages_of}
 use Rattle.injections.proofs.voltages.Goals as goal
 
 pub loop-b-preserved : goal.loop-b-preserved
-loop-b-preserved c = let l = c.loop-b in (stored_next l.invariant.0 (omega arith) (rw c.polar-v.ensures), stored_next l.invariant.1 (omega arith) (rw c.polar-v.ensures))
+loop-b-preserved c = stored_next c.loop-b.invariant (omega arith) c.polar.ensures
 
 pub loop-b-init : goal.loop-b-init
 unfolding voltages_of
-loop-b-init c = (stored-none, stored-none)
+loop-b-init c = stored-none
 
 pub returns : goal.returns
 unfolding voltages_of
-returns c = let l = c.loop-b in rw (stored-all l.invariant.0 (omega arith), stored-all l.invariant.1 (omega arith))
+returns c = stored-all c.loop-b.invariant (omega arith)

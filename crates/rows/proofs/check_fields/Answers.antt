@@ -15,7 +15,7 @@ returns-then-q-e c =
     let l = c.loop-z in
     -- what the two calls say of the field found: whether it is what is asked
     let said = good-is c.args.z l.j (slice l.i f.result c.args.s.now) c.wanted.result c.wanted.ensures c.good.result c.good.ensures in
-    sym (field-last _ _ l.i _ f.result l.j (omega arith) f.ensures (said ∙ c.if-good.true) (omega arith)) ∙ l.invariant.2
+    sym (field-last _ _ l.i _ f.result l.j (omega arith) f.ensures (said ∙ c.if-not-good.false) (omega arith)) ∙ l.invariant.2
 
 pub loop-z-preserved : goal.loop-z-preserved
 loop-z-preserved c =
@@ -23,12 +23,12 @@ loop-z-preserved c =
     let l = c.loop-z in
     -- what the two calls say of the field found: whether it is what is asked
     let said = good-is c.args.z l.j (slice l.i f.result c.args.s.now) c.wanted.result c.wanted.ensures c.good.result c.good.ensures in
-    (omega arith, omega arith, sym (field-on _ _ l.i _ f.result l.j (omega arith) f.ensures (said ∙ c.if-good.true) (omega arith)) ∙ l.invariant.2)
+    (omega arith, omega arith, sym (field-on _ _ l.i _ f.result l.j (omega arith) f.ensures (said ∙ c.if-not-good.false) (omega arith)) ∙ l.invariant.2)
 
-pub returns-else-good : goal.returns-else-good
-returns-else-good c =
+pub returns-then-not-good : goal.returns-then-not-good
+returns-then-not-good c =
     let f = c.find-q in
     let l = c.loop-z in
     -- what the two calls say of the field found: whether it is what is asked
     let said = good-is c.args.z l.j (slice l.i f.result c.args.s.now) c.wanted.result c.wanted.ensures c.good.result c.good.ensures in
-    sym (field-wrong _ _ l.i _ f.result l.j (omega arith) f.ensures (said ∙ c.if-good.false)) ∙ l.invariant.2
+    sym (field-wrong _ _ l.i _ f.result l.j (omega arith) f.ensures (said ∙ c.if-not-good.true)) ∙ l.invariant.2

@@ -1,8 +1,6 @@
 -- `rows::check_line` meets its contract: where the form is good the fields start two bytes on. Assumes nothing.
-use mathlib.Core.Path.{◌≡◌, sym, ◌∙◌}
-use mathlib.Core.Bool.{true}
-use native.Mathlib.Omega.{arith}
-use lib.Seq.{slice}
+use Rattle.std.proofs.Common.{◌≡◌, true, sym, ◌∙◌, arith}
+use Rattle.std.proofs.Math.Seq.{slice}
 use Rattle.fields.specs.Cut.{pieces}
 use Rattle.rows.specs.Line.{form_of}
 use Rattle.rows.specs.Line.Laws.{form-split}
@@ -11,13 +9,10 @@ use Rattle.rows.proofs.check_line.Goals as goal
 pub check_fields-requires : goal.check_fields-requires
 check_fields-requires c =
     let a = c.args in
-    omega (arith, (form-split a.s.now a.a a.e a.z (omega arith) (omega arith) (sym c.form.ensures ∙ c.if-form.true)).0)
-
-pub returns-then-form : goal.returns-then-form
-returns-then-form c =
-    let a = c.args in
-    let g : form_of a.z (pieces 32 (slice a.a a.e a.s.now)) ≡ true = sym c.form.ensures ∙ c.if-form.true in
-    rw (g, (form-split a.s.now a.a a.e a.z (omega arith) (omega arith) g).1) c.check_fields.ensures
+    omega (arith, (form-split a.s.now a.a a.e a.z (omega arith) (omega arith) (sym c.form.ensures ∙ c.if-not-form.false)).0)
 
 pub returns : goal.returns
-returns c = rw (← c.form.ensures, c.if-form.false)
+returns c =
+    let a = c.args in
+    let g : form_of a.z (pieces 32 (slice a.a a.e a.s.now)) ≡ true = sym c.form.ensures ∙ c.if-not-form.false in
+    rw (g, (form-split a.s.now a.a a.e a.z (omega arith) (omega arith) g).1) c.check_fields.ensures

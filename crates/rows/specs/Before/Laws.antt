@@ -1,5 +1,5 @@
 -- A section's check by 01's digit rule and by 02's: of its fields and of a line; proofs/Before tells it of the lines and of the section. Assumes nothing.
-use Rattle.std.specs.Prelude.{◌≡◌, refl, Bool, true, false, cond, ◌&&◌, ◌⊎◌, List, [], ◌∷◌, ◌++◌, leb, get_or, take, drop}
+use Rattle.std.specs.Prelude.{◌≡◌, refl, Bool, true, false, cond, ◌&&◌, ◌⊎◌, List, [], ◌∷◌, ◌++◌, leb, get_or, take, drop, is_some, Ok, Err}
 use Rattle.std.proofs.Common.{sym, ◌∙◌, ⊎_elim, append_assoc, drop-drop}
 use Rattle.std.proofs.Math.Path.{ap}
 use Rattle.std.proofs.Math.Logic.{inl, inr}
@@ -10,25 +10,26 @@ use Rattle.std.proofs.Math.ListN.{length, length-append}
 use Rattle.std.proofs.Math.Seq.{take-append_seam, drop-append_seam}
 use Rattle.real.specs.Tests.{decided, true-false}
 use Rattle.fields.specs.Cut.{empty, only, pieces}
-use Rattle.fields.specs.Real.{allowed, is_real}
+use Rattle.fields.specs.Real.{allowed}
 use Rattle.fields.specs.Before.{allowed_before, Spared}
 use Rattle.fields.specs.Before.Laws.{real-kept, or-nan-kept, real-spared}
 use Rattle.rows.specs.Asked.{size_of, want_of, good_by}
-use Rattle.rows.specs.Line.{form_of, fields_by, line_by}
+use Rattle.rows.specs.Line.{LineCheck, form_of, fields_by, line_by}
 use Rattle.rows.specs.Rows.{after, section_by}
 use Rattle.rows.specs.Printed.{spread, fields_in}
 use Rattle.rows.specs.Printed.Laws.{line-printed}
 use Rattle.rows.specs.Before.{Behind, Freed}
 use Rattle.rows.specs.declared.Section.{Section}
 use Rattle.rows.specs.declared.Want.{Want}
-use Rattle.rows.specs.declared.Check.{Check}
+use Rattle.rows.specs.declared.Fault.{Fault}
+use Rattle.rows.specs.Rows.{Check}
 
 -- ---- a field
 
 -- what 01's rule took, 02's takes
 pub good-kept : (w : Want) (f : List ℕ) → good_by allowed_before w f ≡ true → good_by allowed w f ≡ true
-good-kept Want.Plain f h = ap is_real (real-kept f h) ∙ h
-good-kept Want.Stored f h = ap is_real (or-nan-kept f h) ∙ h
+good-kept Want.Plain f h = ap is_some (real-kept f h) ∙ h
+good-kept Want.Stored f h = ap is_some (or-nan-kept f h) ∙ h
 good-kept Want.Bus f h = h
 good-kept Want.Kind f h = h
 
@@ -55,11 +56,11 @@ line-behind : (z : Section) (p at : ℕ) (l : List ℕ) → p < at → Behind p 
 line-behind z p at l h =
     ⊎_elim (λ q. rw q (fields-behind z p 0 (at + 2) (fields_in l) (omega arith))) (λ q. rw q h) (decided (form_of z (pieces 32 l)))
 
-pub after-behind : (p : ℕ) (v w : Check) → Behind p v → Behind p w → Behind p (after v w)
-after-behind p (Check.Good n) w h k = k
-after-behind p (Check.Rows n) w h k = h
-after-behind p (Check.Form n) w h k = h
-after-behind p (Check.Field n) w h k = h
+pub after-behind : (p : ℕ) (v : LineCheck) (w : Check) → Behind p v → Behind p w → Behind p (after v w)
+after-behind p (Ok _) w h k = k
+after-behind p (Err (Fault.Rows n)) w h k = h
+after-behind p (Err (Fault.Form n)) w h k = h
+after-behind p (Err (Fault.Field n)) w h k = h
 
 either-behind : (p : ℕ) (b : Bool) (v w : Check) → Behind p v → Behind p w → Behind p (cond b v w)
 either-behind p true v w h k = h
@@ -74,9 +75,9 @@ section-behind z p r at (l ∷ ls) h =
 
 -- ---- the fields of a line, from the space at b on: field i of these is the one that is freed
 
-pub record MovedField (s : List ℕ) (z : Section) (j end : ℕ) (fs : List (List ℕ)) (v v' : Check) : Type 0 where
+pub record MovedField (s : List ℕ) (z : Section) (j end : ℕ) (fs : List (List ℕ)) (v v' : LineCheck) : Type 0 where
   pub place : ℕ
-  pub was : v ≡ Check.Field place
+  pub was : v ≡ Err (Fault.Field place)
   pub i : ℕ
   pub inside : i < length fs
   pub stands : take (length (get_or fs i [])) (drop place s) ≡ get_or fs i []

@@ -1,5 +1,6 @@
 -- A line's turns: the search for the next space gives the next field, of the form and of the fields. Assumes nothing.
-use Rattle.std.specs.Prelude.{◌≡◌, refl, Bool, true, false, List, [], ◌∷◌, eqb}
+use Rattle.rows.specs.declared.Fault.{Fault}
+use Rattle.std.specs.Prelude.{◌≡◌, refl, Bool, true, false, List, [], ◌∷◌, eqb, Ok, Err}
 use Rattle.std.proofs.Common.{sym, ap, ◌∙◌}
 use Rattle.std.proofs.Math.Bool.{and-false}
 use Rattle.std.proofs.Math.Logic.{⊎_elim}
@@ -14,7 +15,6 @@ use Rattle.rows.specs.Asked.{section_letter, want_of, good_of}
 use Rattle.rows.specs.Line.{all_some, spaced_of, form_of, fields_by, fields_of, tail}
 use Rattle.rows.specs.declared.Section.{Section}
 use Rattle.rows.specs.declared.Want.{Want}
-use Rattle.rows.specs.declared.Check.TheVariants as Check
 
 -- ---- the form
 
@@ -76,12 +76,12 @@ pub good-is : (z : Section) (j : ℕ) (f : List ℕ) (w : Want) → w ≡ want_o
 good-is z j f w p b q = rw (← p) (sym q)
 
 module _ (s : List ℕ) (z : Section) (i e q j : ℕ) (h : e ≤ length s) (f : Found s i e 32 q) where
-  pub field-wrong : good_of (want_of z j) (slice i q s) ≡ false → fields_of z j i (pieces 32 (slice i e s)) ≡ Check.Field i
+  pub field-wrong : good_of (want_of z j) (slice i q s) ≡ false → fields_of z j i (pieces 32 (slice i e s)) ≡ Err (Fault.Field i)
   unfolding fields_by
   field-wrong g = ⊎_elim (λ w. rw (f.more w, g)) (λ w. rw (f.last w, g)) (below_or q e)
 
   module _ (g : good_of (want_of z j) (slice i q s) ≡ true) where
-    pub field-last : e ≤ q → fields_of z j i (pieces 32 (slice i e s)) ≡ Check.Good 1
+    pub field-last : e ≤ q → fields_of z j i (pieces 32 (slice i e s)) ≡ Ok tt
     unfolding fields_by
     field-last w = rw (f.last w, g)
 

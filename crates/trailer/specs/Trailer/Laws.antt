@@ -1,6 +1,6 @@
 -- The turns of the loop over a trailer's groups; what a good trailer of k groups says, and that its numbers rise to its own start; where the
 -- sections lie; and that a text of the second edition has no first-edition trailer. Assumes nothing.
-use Rattle.std.specs.Prelude.{◌≡◌, refl, true, false, ◌&&◌, List, eqb, length, get_or}
+use Rattle.std.specs.Prelude.{◌≡◌, refl, true, false, ◌&&◌, List, eqb, length, get_or, None, Some, is_some}
 use Rattle.std.proofs.Common.{sym, ◌∙◌, add-zero, add-one}
 use Rattle.std.proofs.Math.Bool.{Bool, and-false}
 use Rattle.std.proofs.Math.Logic.{⊎_elim}
@@ -9,10 +9,8 @@ use native.Mathlib.Omega.{arith}
 use Rattle.std.proofs.Math.Dec.{leb}
 use borrow.Author.Tests.{eqb-true, leb-true, le-leb, lt-leb}
 use Rattle.real.specs.Tests.{and_left, and_right, decided, no-case}
-use Rattle.fields.specs.Digits.{is_number}
-use Rattle.fields.specs.declared.Digits.{Digits}
 use Rattle.rows.specs.declared.Section.{Section}
-use Rattle.trailer.specs.Trailer.{groups_of, trailer_length, trailer_start, group_at, start_at, group_number, rising_of, flagged, edition_of, trailer_by, trailer_of, index_of, behind_g, last_of, Starts, section_start, section_end}
+use Rattle.trailer.specs.Trailer.{groups_of, trailer_length, trailer_start, group_at, start_at, group_number, rising_of, flagged, asked_of, edition_of, trailer_by, trailer_of, index_of, behind_g, last_of, Starts, section_start, section_end}
 use Rattle.trailer.specs.declared.Edition.{Edition}
 use Rattle.trailer.specs.declared.Edition.TheVariants.{First, Second}
 
@@ -27,15 +25,15 @@ module _ (k : ℕ) (s : List ℕ) (at low end : ℕ) where
     one_more : k ≡ suc (k - 1)
     one_more = omega arith
 
-    pub rising-wrong : group_at s at ≡ Digits.Other → rising_of k s at low end ≡ false
+    pub rising-wrong : group_at s at ≡ None → rising_of k s at low end ≡ false
     unfolding rising_of
     rising-wrong g = rw (one_more, g)
 
-    pub rising-falls : (m : ℕ) → group_at s at ≡ Digits.Number m → m < low → rising_of k s at low end ≡ false
+    pub rising-falls : (m : ℕ) → group_at s at ≡ Some m → m < low → rising_of k s at low end ≡ false
     unfolding rising_of
     rising-falls m g l = rw (one_more, g, lt-leb low m l)
 
-    pub rising-on : (m : ℕ) → group_at s at ≡ Digits.Number m → low ≤ m → rising_of k s at low end ≡ rising_of (k - 1) s (at + 6) m end
+    pub rising-on : (m : ℕ) → group_at s at ≡ Some m → low ≤ m → rising_of k s at low end ≡ rising_of (k - 1) s (at + 6) m end
     unfolding rising_of
     rising-on m g l = let q : suc (k - 1) - 1 ≡ k - 1 = omega arith in rw (one_more, g, le-leb low m l, q)
 
@@ -43,7 +41,7 @@ module _ (k : ℕ) (s : List ℕ) (at low end : ℕ) where
 
 -- a group, and that its number is not below the one before
 pub record Group (s : List ℕ) (at low : ℕ) : Type 0 where
-  pub number : is_number (group_at s at) ≡ true
+  pub number : is_some (group_at s at) ≡ true
   pub rises : low ≤ start_at s at
 
 module _ (k : ℕ) (s : List ℕ) (at low end : ℕ) (h : rising_of (suc k) s at low end ≡ true) where
@@ -51,12 +49,12 @@ module _ (k : ℕ) (s : List ℕ) (at low end : ℕ) (h : rising_of (suc k) s at
   unfolding rising_of
   first_group = record {
     number = and_left _ _ h;
-    rises = leb-true low (start_at s at) (and_left _ _ (and_right (is_number (group_at s at)) _ h));
+    rises = leb-true low (start_at s at) (and_left _ _ (and_right (is_some (group_at s at)) _ h));
   }
 
   pub groups-after : (to : ℕ) → at + 6 ≡ to → rising_of k s to (start_at s at) end ≡ true
   unfolding rising_of
-  groups-after to q = rw (← q) (and_right (leb low (start_at s at)) _ (and_right (is_number (group_at s at)) _ h))
+  groups-after to q = rw (← q) (and_right (leb low (start_at s at)) _ (and_right (is_some (group_at s at)) _ h))
 
 -- behind group j of k that rise, counted from 0, the others rise from its number on
 groups-behind : (k j : ℕ) (s : List ℕ) (at low end : ℕ) → rising_of k s at low end ≡ true → j < k
@@ -157,7 +155,10 @@ within e s t h z b =
     let w = rising (groups_of e) s t (good-trailer e s t h) in
     record { ordered = w.never_fall (index_of z) b; inside = w.inside (index_of z + 1) b }
 
--- ---- which edition
+-- ---- which flag, and which edition
+
+pub asked-flagged : (e : Edition) (b : ℕ) → is_some (asked_of e b) ≡ flagged e b
+asked-flagged e b = ⊎_elim (λ q. rw q) (λ q. rw q) (decided (flagged e b))
 
 module _ (s : List ℕ) where
   abbrev letter : ℕ

@@ -9,7 +9,7 @@ use Rattle.ybus.proofs.admittances.Goals as goal
 pub loop-e-preserved : goal.loop-e-preserved
 loop-e-preserved c =
     let l = c.loop-e in
-    (refl, stored_next l.invariant.1 (omega arith) (c.branch_admittance-y.ensures ∙ ap admittance_of c.branch_at-x.ensures))
+    (refl, stored_next l.invariant.1 (omega arith) (c.branch_admittance.ensures ∙ ap admittance_of c.branch_at.ensures))
 
 pub returns : goal.returns
 unfolding admittances_of

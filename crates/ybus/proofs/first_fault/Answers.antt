@@ -1,21 +1,15 @@
--- `ybus::first_fault` meets its contract: what was found among the rows passed. Assumes nothing.
-use mathlib.Core.Path.{◌≡◌, refl}
-use native.Mathlib.Omega.{arith}
-use lib.ListN.{length}
-use Rattle.real.specs.First.Laws.{first-begins, first-turn}
+-- `ybus::first_fault` meets its contract: no row passed is at fault. Assumes nothing.
+use Rattle.std.proofs.Common.{◌≡◌, sym, arith, length}
+use Rattle.real.specs.First.Laws.{lowest-at, clear-nowhere}
 use Rattle.ybus.proofs.first_fault.Goals as goal
 
-pub loop-e-preserved : goal.loop-e-preserved
-loop-e-preserved c =
+pub returns-then-tap-e : goal.returns-then-tap-e
+returns-then-tap-e c =
     let l = c.loop-e in
-    let here = rw c.or-fails.ensures at c.if_at.ensures in
-    (omega arith, refl, first-turn _ l.e _ _ _ l.invariant.2 here c.earlier-found.ensures)
+    sym (lowest-at _ _ l.e (record { inside = omega arith; passes = c.if-tap-e.true; lower = l.invariant.2 }))
 
 pub returns : goal.returns
 returns c =
     let l = c.loop-e in
-    let e : l.e ≡ length c.args.from.now = omega arith in
-    rw (← e) l.invariant.2
-
-pub loop-e-init : goal.loop-e-init
-loop-e-init c = (omega arith, refl, first-begins _)
+    let e : l.e ≡ length c.args.ends.from.now = omega arith in
+    sym (clear-nowhere _ _ (rw e at l.invariant.2))

@@ -1,9 +1,0 @@
--- `rows::ends_first` meets its contract: a way for the ends and one for what stands behind them. Assumes nothing.
-use borrow.Author.Tests.{le-leb, lt-leb}
-use Rattle.rows.proofs.ends_first.Goals as goal
-
-pub returns-then-j-ge2 : goal.returns-then-j-ge2
-returns-then-j-ge2 c = rw (le-leb 2 _ c.if-j-ge2.true)
-
-pub returns : goal.returns
-returns c = rw (lt-leb 2 _ c.if-j-ge2.false)
