@@ -107,9 +107,7 @@ fn measure(g: &NewtonProblem, p: Point) -> Measured
     requires { GoodProblem (problem_in g.now) }
     ensures { result ≡ measured_of (problem_in g.now) p }
 {
-    let vm = p.vm;
-    let va = p.va;
-    let found = injections::ac_injections(g.layout.n, g.y.row, g.y.col, g.y.re, g.y.im, vm, va);
+    let found = injections::ac_injections(g.layout.n, g.y, p);
     let phasors = found.phasors;
     let qg = g.qg;
     let p = found.power.p;
@@ -147,13 +145,9 @@ fn direction(g: &NewtonProblem, va: [f64; 32], m: Measured, w: &mut [f64]) -> Re
     ensures { outcome result w.new ≡ direction_of (triplets_in g.now.y) g.now.layout va m w.old }
 {
     let dim = g.layout.dim;
-    let phasors = m.phasors;
-    let r = m.r;
     linsolve::clear(w, dim);
-    injections::ac_jacobian(
-        g.layout.n, g.y.row, g.y.col, g.y.re, g.y.im, va, phasors, g.layout, w,
-    );
-    load_sides(dim, r, w);
+    injections::ac_jacobian(g.layout.n, g.y, va, m.phasors, g.layout, w);
+    load_sides(dim, m.r, w);
     linsolve::solve(w, dim)
 }
 
@@ -230,8 +224,7 @@ pub fn newton(g: &NewtonProblem, start: Point, w: &mut [f64]) -> Ended
         if m.residual < TOL {
             return Ended::at(p, it, m, Ending::Converged);
         }
-        let va = p.va;
-        if let Err(singular) = direction(g, va, m, w) {
+        if let Err(singular) = direction(g, p.va, m, w) {
             return Ended::at(p, it, m, Ending::Singular(singular.column));
         }
         let Some(t) = search(g, p, m, w) else {
