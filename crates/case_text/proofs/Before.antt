@@ -1,5 +1,5 @@
 -- Any first-edition text is read as it was by 01's digit rule, its columns too, or it is moved. Assumes nothing.
-use Rattle.std.specs.Prelude.{ℕ, ◌≡◌, ◌⊎◌, List}
+use Rattle.std.specs.Prelude.{ℕ, ◌≡◌, ◌⊎◌, List, Ok, Err}
 use Rattle.std.proofs.Math.Path.{refl, sym}
 use Rattle.std.proofs.Common.{◌∙◌}
 use Rattle.std.proofs.Math.Logic.{inl, inr, ⊎_elim}
@@ -7,10 +7,9 @@ use Rattle.network.specs.Network.{Network, room_of}
 use Rattle.fields.specs.Before.{allowed_before}
 use Rattle.trailer.specs.Trailer.{trailer_start}
 use Rattle.trailer.specs.declared.Edition.TheVariants.{First}
-use Rattle.case_text.specs.Text.{text_by, checked_text}
+use Rattle.case_text.specs.Text.{Reading, text_by, checked_text}
 use Rattle.case_text.specs.Answer.{paper_of, with_room, read_result, result_of, read_first_by, read_first}
 use Rattle.case_text.specs.Before.{MovedText}
-use Rattle.case_text.specs.declared.Reading.{Reading}
 use Rattle.case_text.specs.Before.Laws.{text-before, read_kept}
 
 module _ (s : List ℕ) where
@@ -24,11 +23,5 @@ module _ (s : List ℕ) where
       refusal v h e same = rw (h, e) (same _ ∙ sym (same _))
 
       go : (v : Reading) → text_by allowed_before First s ≡ v → checked_text First s ≡ v → read_first s old ≡ read_first_by allowed_before s old
-      go (Reading.Good c) h e = read_kept s c h old
-      go (Reading.Length n) h e = refusal (Reading.Length n) h e (λ r. refl)
-      go (Reading.Trailer n) h e = refusal (Reading.Trailer n) h e (λ r. refl)
-      go (Reading.Byte n) h e = refusal (Reading.Byte n) h e (λ r. refl)
-      go (Reading.Rows n) h e = refusal (Reading.Rows n) h e (λ r. refl)
-      go (Reading.Form n) h e = refusal (Reading.Form n) h e (λ r. refl)
-      go (Reading.Field n) h e = refusal (Reading.Field n) h e (λ r. refl)
-      go Reading.Room h e = refusal Reading.Room h e (λ r. refl)
+      go (Ok c) h e = read_kept s c h old
+      go (Err f) h e = refusal (Err f) h e (λ r. refl)

@@ -1,5 +1,6 @@
 -- 01's examples of the reader, by computation: the listing's text reads to its tables, and `1.` in a line is refused 5 at its place.
 -- `fields` has `-0` and `-0.25` as values (`minus-zero`, `minus-quarter`); here they are read from a text. Assumes nothing.
+use Rattle.std.specs.Prelude.{Ok, Err}
 use mathlib.Core.Path.{◌≡◌, refl, ap, ◌∙◌}
 use mathlib.Core.Bool.{true}
 use mathlib.Core.List.{List, [], ◌∷◌, ◌++◌}
@@ -28,7 +29,7 @@ use Rattle.network.specs.Network.{Network, Slacks, buses_of, slacks_of, generato
 use Rattle.case_text.specs.Answer.{read_result, filled_from, tables_by, filled_of, read_first_by, read_first}
 use Rattle.case_text.specs.declared.Contents.{Contents}
 use Rattle.starts.specs.declared.AcStart.TheVariants.{Flat}
-use Rattle.case_text.specs.declared.Reading.TheVariants as Reading
+use Rattle.case_text.specs.declared.Refusal.{Refusal}
 
 -- the listing of 01, "One listing in full": 73 bytes
 abbrev pub listing : List ℕ
@@ -38,7 +39,7 @@ listing =
 abbrev pub listing_contents : Contents
 listing_contents = record { edition = First; start = Flat; rows = row_counts 1 1 0 0 1 }
 
-pub listing-text : text_of listing ≡ Reading.Good listing_contents
+pub listing-text : text_of listing ≡ Ok listing_contents
 unfolding text_by edition_of bytes_of part_by body_by trailer_of rising_of known_of section_by fields_by all_some pieces upto past has digits number counted allowed amount_by
 listing-text = refl
 
@@ -46,7 +47,7 @@ pub listing-edition : edition_of listing ≡ First
 unfolding edition_of
 listing-edition = refl
 
-listing-first : checked_text First listing ≡ Reading.Good listing_contents
+listing-first : checked_text First listing ≡ Ok listing_contents
 unfolding text_by bytes_of part_by body_by trailer_of rising_of known_of section_by fields_by all_some pieces upto past has digits number counted allowed amount_by
 listing-first = refl
 
@@ -72,11 +73,11 @@ padded_starts =
 abbrev padded_text : List ℕ
 padded_text = (66 ∷ 32 ∷ 81 ∷ 32 ∷ []) ++ (padded ++ (padded_rest ++ (line_r ++ (line_y ++ padded_starts))))
 
-pub padded-accepted : text_of padded_text ≡ Reading.Good listing_contents
+pub padded-accepted : text_of padded_text ≡ Ok listing_contents
 unfolding text_by edition_of bytes_of part_by body_by trailer_of rising_of known_of section_by fields_by all_some pieces upto past has digits number counted allowed amount_by
 padded-accepted = refl
 
-pub padded-before : text_by allowed_before First padded_text ≡ Reading.Field 4
+pub padded-before : text_by allowed_before First padded_text ≡ Err (Refusal.Field 4)
 unfolding text_by edition_of bytes_of part_by body_by trailer_of rising_of known_of section_by fields_by all_some pieces upto past has digits number allowed_before amount_by
 padded-before = refl
 
@@ -194,10 +195,10 @@ branch_listing =
     32 ∷ 48 ∷ 32 ∷ 48 ∷ 32 ∷ 49 ∷ 32 ∷ 48 ∷ 32 ∷ 49 ∷ 10 ∷ 102 ∷ 32 ∷ 48 ∷ 48 ∷ 48 ∷ 48 ∷ 48 ∷ 32 ∷ 48 ∷ 48 ∷ 48 ∷ 51 ∷ 54 ∷ 32 ∷ 48 ∷ 48 ∷ 48 ∷
     52 ∷ 50 ∷ 32 ∷ 48 ∷ 48 ∷ 48 ∷ 52 ∷ 50 ∷ 32 ∷ 48 ∷ 48 ∷ 48 ∷ 54 ∷ 55 ∷ 10 ∷ []
 
-pub branch-accepted : text_of branch_listing ≡ Reading.Good (record { edition = Second; start = Flat; rows = row_counts 2 1 0 1 0 })
+pub branch-accepted : text_of branch_listing ≡ Ok (record { edition = Second; start = Flat; rows = row_counts 2 1 0 1 0 })
 unfolding text_by edition_of bytes_of part_by body_by trailer_of rising_of known_of section_by fields_by all_some pieces upto past has digits number counted allowed amount_by
 branch-accepted = refl
 
-pub branch-before : checked_text First branch_listing ≡ Reading.Trailer 61
+pub branch-before : checked_text First branch_listing ≡ Err (Refusal.Trailer 61)
 unfolding text_by trailer_of rising_of digits number
 branch-before = refl

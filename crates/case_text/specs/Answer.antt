@@ -1,6 +1,7 @@
 -- The answer of a reading by an edition's rules: 01's number and values for each case, refusal 9, and the tables afterwards.
 pub mod Laws
-use Rattle.std.specs.Prelude.{ℕ, cond, List, [], ◌∷◌}
+use Rattle.std.specs.Prelude.{ℕ, cond, List, [], ◌∷◌, Ok, Err}
+use Rattle.real.specs.declared.Value.{Value}
 use Rattle.real.specs.declared.Value.TheVariants.{Whole}
 use Rattle.real.specs.Paper.{Paper, given, refused, on_given}
 use Rattle.network.specs.declared.Rows.{Rows}
@@ -12,25 +13,38 @@ use Rattle.columns.specs.Columns.{buses_by, slacks_by, generators_by, filled_bra
 use Rattle.trailer.specs.Trailer.{trailer_start, bytes_of}
 use Rattle.trailer.specs.declared.Edition.{Edition}
 use Rattle.trailer.specs.declared.Edition.TheVariants.{First, Second}
-use Rattle.case_text.specs.Text.{text_by, checked_text}
+use Rattle.case_text.specs.Text.{Reading, text_by, checked_text}
 use Rattle.case_text.specs.declared.Contents.{Contents}
-use Rattle.case_text.specs.declared.Reading.{Reading}
-use Rattle.case_text.specs.declared.Reading.TheVariants as Reading
+use Rattle.case_text.specs.declared.Refusal.{Refusal}
 
--- what 01's table says of an answer: what the text holds, or the refusal's number and its place
+-- 01's table of the refusals: the number of each, and its place, of which 9 has none
+abbrev pub refusal_number : Refusal → ℕ
+refusal_number (Refusal.Length at) = 1
+refusal_number (Refusal.Trailer at) = 2
+refusal_number (Refusal.Byte at) = 3
+refusal_number (Refusal.Rows at) = 6
+refusal_number (Refusal.Form at) = 4
+refusal_number (Refusal.Field at) = 5
+refusal_number Refusal.Room = 9
+
+abbrev pub refusal_values : Refusal → List Value
+refusal_values (Refusal.Length at) = Whole at ∷ []
+refusal_values (Refusal.Trailer at) = Whole at ∷ []
+refusal_values (Refusal.Byte at) = Whole at ∷ []
+refusal_values (Refusal.Rows at) = Whole at ∷ []
+refusal_values (Refusal.Form at) = Whole at ∷ []
+refusal_values (Refusal.Field at) = Whole at ∷ []
+refusal_values Refusal.Room = []
+
+-- what it says of an answer: what the text holds, or the refusal
 abbrev pub paper_of : Reading → Paper Contents
-paper_of (Reading.Good c) = given c
-paper_of (Reading.Length at) = refused 1 (Whole at ∷ [])
-paper_of (Reading.Trailer at) = refused 2 (Whole at ∷ [])
-paper_of (Reading.Byte at) = refused 3 (Whole at ∷ [])
-paper_of (Reading.Rows at) = refused 6 (Whole at ∷ [])
-paper_of (Reading.Form at) = refused 4 (Whole at ∷ [])
-paper_of (Reading.Field at) = refused 5 (Whole at ∷ [])
-paper_of Reading.Room = refused 9 []
+paper_of (Ok c) = given c
+paper_of (Err f) = refused (refusal_number f) (refusal_values f)
 
 -- refusal 9: "a reader column shorter than its table's rows"
 abbrev pub with_room : Reading → Rows → Reading
-with_room v m = on_given (paper_of v) (λ c. cond (fits_of c.rows m) v Reading.Room) v
+with_room (Ok c) m = cond (fits_of c.rows m) (Ok c) (Err Refusal.Room)
+with_room (Err f) m = Err f
 
 -- the answer and the tables afterwards
 pub data ReadResult (T : Type 0) : Type 0 where

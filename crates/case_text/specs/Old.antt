@@ -1,5 +1,5 @@
 -- 02, Ask 3: "An old reader must refuse every such text and never read a value from it." The old reader is the first edition's, by any digit rule. Assumes nothing.
-use Rattle.std.specs.Prelude.{◌≡◌, true, cond, List, ◌∷◌, ℕ, zero, suc, ◌+◌, ◌≤◌, ◌<◌, eqb, length, get_or}
+use Rattle.std.specs.Prelude.{◌≡◌, true, cond, List, ◌∷◌, ℕ, zero, suc, ◌+◌, ◌≤◌, ◌<◌, eqb, length, get_or, Ok, Err}
 use Rattle.std.proofs.Math.Path.{refl}
 use Rattle.std.proofs.Math.Bool.{false}
 use Rattle.std.proofs.Math.Logic.{⊎_elim}
@@ -15,11 +15,11 @@ use Rattle.trailer.specs.Trailer.{trailer_length, trailer_start, flagged, editio
 use Rattle.trailer.specs.Trailer.Laws.{good-trailer, first_group, second-tells}
 use Rattle.trailer.specs.declared.Edition.{Edition}
 use Rattle.trailer.specs.declared.Edition.TheVariants.{First, Second}
-use Rattle.case_text.specs.Text.{after_length, text_by}
+use Rattle.case_text.specs.Text.{Reading, after_length, text_by}
 use Rattle.case_text.specs.Answer.{read_result, paper_of, with_room, result_of, tables_by, read_first_by}
 use Rattle.case_text.specs.Printed.Laws.{group-digits}
 use Rattle.case_text.specs.declared.Contents.{Contents}
-use Rattle.case_text.specs.declared.Reading.{Reading}
+use Rattle.case_text.specs.declared.Refusal.{Refusal}
 
 -- ---- a byte 32 from the end that is `f` or `c` stands where a first-edition trailer has a digit
 
@@ -59,18 +59,18 @@ module _ (s : List ℕ) (second : edition_of s ≡ Second) where
 
   -- its length, or 32,768, with refusal 1, or the place of the trailer that is not there with refusal 2
   pub data OldRefusal : Reading → Type 0 where
-    too_short : OldRefusal (Reading.Length (length s))
-    too_long : OldRefusal (Reading.Length 32768)
-    untrailed : OldRefusal (Reading.Trailer (trailer_start First s))
+    too_short : OldRefusal (Err (Refusal.Length (length s)))
+    too_long : OldRefusal (Err (Refusal.Length 32768))
+    untrailed : OldRefusal (Err (Refusal.Trailer (trailer_start First s)))
 
   pub old-refuses : (rule : DigitRule) → OldRefusal (text_by rule First s)
   unfolding text_by
   old-refuses rule = ⊎_elim (λ q. rw q too_short) long (decided (ltb (length s) (trailer_length First)))
     where
-      fits : ltb 32768 (length s) ≡ false → ltb (length s) (trailer_length First) ≡ false → OldRefusal (cond (ltb 32768 (length s)) (Reading.Length 32768) (after_length rule First s (trailer_start First s)))
+      fits : ltb 32768 (length s) ≡ false → ltb (length s) (trailer_length First) ≡ false → OldRefusal (cond (ltb 32768 (length s)) (Err (Refusal.Length 32768)) (after_length rule First s (trailer_start First s)))
       fits r q = rw (r, no-trailer (ltb-false (length s) (trailer_length First) q)) untrailed
 
-      long : ltb (length s) (trailer_length First) ≡ false → OldRefusal (cond (ltb (length s) (trailer_length First)) (Reading.Length (length s)) (cond (ltb 32768 (length s)) (Reading.Length 32768) (after_length rule First s (trailer_start First s))))
+      long : ltb (length s) (trailer_length First) ≡ false → OldRefusal (cond (ltb (length s) (trailer_length First)) (Err (Refusal.Length (length s))) (cond (ltb 32768 (length s)) (Err (Refusal.Length 32768)) (after_length rule First s (trailer_start First s))))
       long q = rw q (⊎_elim (λ r. rw r too_long) (λ r. fits r q) (decided (ltb 32768 (length s))))
 
   pub old-reads-nothing : (rule : DigitRule) (old : Network) → read_first_by rule s old ≡ read_result (paper_of (text_by rule First s)) old
@@ -83,12 +83,12 @@ module _ (s : List ℕ) (second : edition_of s ≡ Second) where
       go _ untrailed = refl
 
 -- a text that the old reader accepts is of the first edition
-not_good : (s : List ℕ) (second : edition_of s ≡ Second) (v : Reading) → OldRefusal s second v → (c : Contents) → v ≡ Reading.Good c → ⊥
+not_good : (s : List ℕ) (second : edition_of s ≡ Second) (v : Reading) → OldRefusal s second v → (c : Contents) → v ≡ Ok c → ⊥
 not_good s second _ too_short c e = no-case cc
 not_good s second _ too_long c e = no-case cc
 not_good s second _ untrailed c e = no-case cc
 
-pub accepted-first : (rule : DigitRule) (s : List ℕ) (c : Contents) → text_by rule First s ≡ Reading.Good c → edition_of s ≡ First
+pub accepted-first : (rule : DigitRule) (s : List ℕ) (c : Contents) → text_by rule First s ≡ Ok c → edition_of s ≡ First
 accepted-first rule s c h = go (edition_of s) refl
   where
     go : (e : Edition) → edition_of s ≡ e → e ≡ First

@@ -1,31 +1,35 @@
 -- A whole case text: "1, 2, then 3 over the whole body; then line by line 6, 4, 5". All is said by the rules of an edition; its reals are read by a digit rule.
 pub mod Laws
-use Rattle.std.specs.Prelude.{ℕ, cond, List, ltb, length, get_or}
+use Rattle.std.specs.Prelude.{ℕ, cond, List, ltb, length, get_or, Result, Ok, Err}
 use Rattle.std.proofs.Math.Seq.{slice}
 use Rattle.network.specs.Network.{row_counts}
 use Rattle.fields.specs.Real.{DigitRule, allowed}
 use Rattle.rows.specs.Rows.{check_by}
 use Rattle.rows.specs.declared.Section.{Section}
 use Rattle.rows.specs.declared.Section.TheVariants as Section
-use Rattle.rows.specs.declared.Check.{Check}
-use Rattle.rows.specs.declared.Check.TheVariants as Check
+use Rattle.rows.specs.declared.Fault.{Fault}
+use Rattle.rows.specs.Rows.{Check}
 use Rattle.case_text.specs.Alphabet.{known_of}
 use Rattle.trailer.specs.Trailer.{trailer_length, trailer_start, mode_of, edition_of, trailer_of, behind_g, section_start, bytes_of}
 use Rattle.trailer.specs.declared.Edition.{Edition}
 use Rattle.trailer.specs.declared.Edition.TheVariants.{First, Second}
-use Rattle.case_text.specs.declared.Reading.{Reading}
-use Rattle.case_text.specs.declared.Reading.TheVariants as Reading
+use Rattle.case_text.specs.declared.Contents.{Contents}
+use Rattle.case_text.specs.declared.Refusal.{Refusal}
+
+-- the answer: what the text holds, or why it is refused
+abbrev pub Reading : Type 0
+Reading = Result Contents Refusal
+
+-- what a section's fault is of the text
+abbrev pub refusal_of : Fault → Refusal
+refusal_of (Fault.Rows at) = Refusal.Rows at
+refusal_of (Fault.Form at) = Refusal.Form at
+refusal_of (Fault.Field at) = Refusal.Field at
 
 -- a section's refusal is the text's; a good one hands its rows on
 abbrev pub then_section : Check → (ℕ → Reading) → Reading
-then_section (Check.Good n) k = k n
-then_section (Check.Rows at) k = Reading.Rows at
-then_section (Check.Form at) k = Reading.Form at
-then_section (Check.Field at) k = Reading.Field at
-
--- what a section's refusal is of the text
-abbrev pub section_refusal : Check → Reading
-section_refusal v = then_section v (λ n. Reading.Room)
+then_section (Ok n) k = k n
+then_section (Err f) k = Err (refusal_of f)
 
 module _ (rule : DigitRule) where
   -- a section, whose lines' and fields' places are places of the text
@@ -35,12 +39,12 @@ module _ (rule : DigitRule) where
   -- the section Y, which the second edition does not have: it has no triplets
   abbrev pub triplet_part_by : Edition → List ℕ → ℕ → Check
   triplet_part_by First s t = part_by Section.Y s t
-  triplet_part_by Second s t = Check.Good 0
+  triplet_part_by Second s t = Ok 0
 
 -- the rows of good sections
 abbrev pub after_y : Edition → List ℕ → ℕ → ℕ → ℕ → ℕ → ℕ → ℕ → Reading
 after_y e s t nb nr ng nl ny =
-    Reading.Good (record { edition = e; start = mode_of e (get_or s t 0); rows = row_counts nb nr ng nl ny })
+    Ok (record { edition = e; start = mode_of e (get_or s t 0); rows = row_counts nb nr ng nl ny })
 
 module _ (rule : DigitRule) (e : Edition) where
   -- "Sections B, R, G, L, Y stand in that order"; "in place of the L and Y sections a K section"
@@ -61,17 +65,17 @@ module _ (rule : DigitRule) (e : Edition) where
 
   -- refusal 3 at the first byte before t that is not of the alphabet
   abbrev pub after_trailer : List ℕ → ℕ → Reading
-  after_trailer s t = cond (ltb (known_of e (slice 0 t s)) t) (Reading.Byte (known_of e (slice 0 t s))) (body_by s t)
+  after_trailer s t = cond (ltb (known_of e (slice 0 t s)) t) (Err (Refusal.Byte (known_of e (slice 0 t s)))) (body_by s t)
 
   -- refusal 2 at the trailer's start
   abbrev pub after_length : List ℕ → ℕ → Reading
-  after_length s t = cond (trailer_of e s t) (after_trailer s t) (Reading.Trailer t)
+  after_length s t = cond (trailer_of e s t) (after_trailer s t) (Err (Refusal.Trailer t))
 
   -- refusal 1: "text under 38 bytes (place: its length) or over 32,768 (place: 32,768)"; of the second edition "its least length is 32"
   unfoldable pub text_by : List ℕ → Reading
   text_by s =
-      cond (ltb (length s) (trailer_length e)) (Reading.Length (length s))
-      (cond (ltb 32768 (length s)) (Reading.Length 32768)
+      cond (ltb (length s) (trailer_length e)) (Err (Refusal.Length (length s)))
+      (cond (ltb 32768 (length s)) (Err (Refusal.Length 32768))
       (after_length s (trailer_start e s)))
 
 -- ---- by 02's digit rule

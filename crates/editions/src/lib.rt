@@ -6,7 +6,7 @@ ghost use Rattle.network.specs.Network.{buses_of, slacks_of, generators_of, bran
 ghost use Rattle.network.specs.BranchTable.{values_of, branch_table_of, branch_network_of};
 ghost use Rattle.case_text.specs.Answer.{read_result, paper_of, read_first, read_second};
 
-use case_text::Reading;
+use case_text::{Contents, Refusal};
 use network::Rows;
 use trailer::Edition;
 
@@ -44,7 +44,7 @@ pub fn read_triplets(
     y_col: &mut [usize],
     y_re: &mut [f64],
     y_im: &mut [f64],
-) -> Reading
+) -> Result<Contents, Refusal>
     ensures { let old = network_of
         (buses_of kind.old vm_set.old pd.old qd.old pg.old qg.old vm_case.old va_case.old)
         (slacks_of slacks.old va_slacks.old)
@@ -75,10 +75,7 @@ pub fn read_triplets(
         branches: real::least(br_from.len(), br_to.len()),
         triplets: least4(y_row.len(), y_col.len(), y_re.len(), y_im.len()),
     };
-    let v = case_text::judge(text, Edition::First, room);
-    let Reading::Good(_) = v else {
-        return v;
-    };
+    let contents = case_text::judge(text, Edition::First, room)?;
     let p = trailer::section_places(text, Edition::First);
     let r = p.r;
     let g = p.g;
@@ -88,7 +85,7 @@ pub fn read_triplets(
     columns::fill_lines(
         text, l, p.triplets, p.t, br_from, br_to, y_row, y_col, y_re, y_im,
     );
-    v
+    Ok(contents)
 }
 
 // The same by the second edition's rules, with 24 columns.
@@ -118,7 +115,7 @@ pub fn read_branches(
     tap: &mut [f64],
     shift: &mut [f64],
     sw: &mut [f64],
-) -> Reading
+) -> Result<Contents, Refusal>
     ensures { let old = branch_network_of
         (buses_of kind.old vm_set.old pd.old qd.old pg.old qg.old vm_case.old va_case.old)
         (slacks_of slacks.old va_slacks.old)
@@ -162,10 +159,7 @@ pub fn read_branches(
         ),
         triplets: 0,
     };
-    let v = case_text::judge(text, Edition::Second, room);
-    let Reading::Good(_) = v else {
-        return v;
-    };
+    let contents = case_text::judge(text, Edition::Second, room)?;
     let p = trailer::section_places(text, Edition::Second);
     let r = p.r;
     let s = p.g;
@@ -175,5 +169,5 @@ pub fn read_branches(
     columns::fill_branch_table(
         text, l, p.triplets, from, to, g, b, g_fr, b_fr, g_to, b_to, tap, shift, sw,
     );
-    v
+    Ok(contents)
 }

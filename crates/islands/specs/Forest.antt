@@ -1,7 +1,7 @@
 -- What the inner functions hand each other; dense_islands' own contract speaks of none of it. The table of parents: a bus points at the one above it, a root
 -- at itself.
 pub mod Laws
-use Rattle.std.specs.Prelude.{ℕ, ◌+◌, ◌<◌, ◌≡◌, cond, List, length, get_or, set, eqb}
+use Rattle.std.specs.Prelude.{ℕ, ◌+◌, ◌<◌, ◌≡◌, cond, List, length, get_or, set, Some, None, is_none}
 use Rattle.islands.specs.declared.Labels.{Labels}
 use Rattle.islands.specs.Islands.{moved}
 
@@ -23,6 +23,6 @@ Grown parent = (rank : ℕ → ℕ) × (root : ℕ → ℕ) × Forest rank root 
 abbrev pub joined_root : (ℕ → ℕ) → ℕ → ℕ → ℕ → ℕ
 joined_root root a b i = moved (root a) (root b) (root i)
 
--- a root without a label, marked by 32, takes the next one
+-- a root without a label takes the next one
 abbrev pub or_insert : Labels → ℕ → Labels
-or_insert l root = cond (eqb (get_or l.of root 0) 32) (record { of = set l.of root l.next; next = l.next + 1 }) l
+or_insert l root = cond (is_none (get_or l.of root None)) (record { of = set l.of root (Some l.next); next = l.next + 1 }) l

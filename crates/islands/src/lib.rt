@@ -1,7 +1,7 @@
 // Islands: the buses that lines join, numbered in the order of each island's first bus.
 #![tactic(auto)]
 
-ghost use Rattle.std.specs.Prelude.{◌≡◌, ℕ, ◌<◌, ◌≤◌};
+ghost use Rattle.std.specs.Prelude.{◌≡◌, ℕ, ◌<◌, ◌≤◌, Some, None, slice_index_or};
 ghost use Rattle.real.specs.Each.{each};
 ghost use Rattle.islands.specs.Forest.{Forest, Grown, joined_root, or_insert};
 ghost use Rattle.islands.specs.Islands.{Ends, island_of, label_by, labels_of, label_table};
@@ -24,11 +24,7 @@ fn find(parent: &mut [usize; 32], node: usize) -> usize
 fn alone() -> [usize; 32]
     ensures { Forest (λ i. 0) (λ i. i) result }
 {
-    let mut parent = [0usize; 32];
-    for i in 0..32usize {
-        parent[i] = i;
-    }
-    parent
+    std::array::from_fn(|i| i)
 }
 
 // One line: the root of `to` is hung below the root of `from`.
@@ -54,27 +50,26 @@ fn join_all(br_from: &[usize], br_to: &[usize]) -> [usize; 32]
     parent
 }
 
-// The label of each root met so far, 32 for none, and the label that comes next.
-#[derive(Clone, Copy)]
+// The label of each root met so far, and the label that comes next.
+#[derive(Clone, Copy, Debug)]
 struct Labels {
-    pub of: [usize; 32],
-    pub next: usize,
+    of: [Option<usize>; 32],
+    next: usize,
 }
 
-// A root met for the first time takes the next label.
-fn or_insert(label: Labels, root: usize) -> Labels
-    requires { (root < 32) × (label.next ≤ 32) }
-    ensures { result ≡ or_insert label root }
+// The label of a root. One met for the first time takes the next.
+fn or_insert(labels: &mut Labels, root: usize) -> usize
+    requires { (root < 32) × (labels.old.next ≤ 32) }
+    ensures after { labels.new ≡ or_insert labels.old root }
+    ensures label { slice_index_or labels.new.of root None ≡ Some result }
 {
-    let mut of = label.of;
-    if of[root] != 32 {
+    if let Some(label) = labels.of[root] {
         return label;
     }
-    of[root] = label.next;
-    Labels {
-        of,
-        next: label.next + 1,
-    }
+    let label = labels.next;
+    labels.of[root] = Some(label);
+    labels.next += 1;
+    label
 }
 
 fn label_all(n: usize, parent: [usize; 32]) -> [usize; 32]
@@ -82,16 +77,14 @@ fn label_all(n: usize, parent: [usize; 32]) -> [usize; 32]
     ensures { (rank root : ℕ → ℕ) → Forest rank root parent → result ≡ label_table n (each n (label_by root)) }
 {
     let mut parent = parent;
-    let mut label = Labels {
-        of: [32usize; 32],
+    let mut labels = Labels {
+        of: [None; 32],
         next: 0,
     };
     let mut out = [0usize; 32];
     for bus in 0..n {
         let root = find(&mut parent, bus);
-        label = or_insert(label, root);
-        let of = label.of;
-        out[bus] = of[root];
+        out[bus] = or_insert(&mut labels, root);
     }
     out
 }

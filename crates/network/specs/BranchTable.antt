@@ -1,11 +1,10 @@
 -- 02, Ask 3: `K from to g b g_fr b_fr g_to b_to tap shift sw`, the table of branches, and the tables of a second-edition case.
 pub mod Laws
-use Rattle.std.specs.Prelude.{ℕ, ◌≤◌, min, ◌≡◌, Bool, List, [], eqb, length, take, Float}
-use Rattle.real.specs.Tests.{both}
+use Rattle.std.specs.Prelude.{ℕ, ◌≤◌, min, ◌≡◌, Bool, List, [], ◌∷◌, length, take, Float}
 use Rattle.network.specs.declared.Rows.{Rows}
 use Rattle.network.specs.Network.{Buses, Slacks, Generators, Branches, Triplets, Network, buses_room, slacks_room, generators_room, branches_room, row_counts, triplets_of, network_of}
 use Rattle.network.specs.Network.{first_buses, first_slacks, first_generators, first_branches, RoomBuses, RoomSlacks, RoomGenerators, RoomBranches}
-use Rattle.network.specs.Checks.{same7}
+use Rattle.network.specs.Checks.{same}
 
 -- the nine numbers of each branch
 pub record Values : Type 0 where
@@ -52,8 +51,8 @@ no_triplets = triplets_of [] [] [] []
 
 unfoldable pub values_counted : ℕ → Values → Bool
 values_counted n v =
-    both (same7 n (length v.g) (length v.b) (length v.g_fr) (length v.b_fr) (length v.g_to) (length v.b_to) (length v.tap))
-    (both (eqb (length v.shift) n) (eqb (length v.sw) n))
+    same n
+    (length v.g ∷ length v.b ∷ length v.g_fr ∷ length v.b_fr ∷ length v.g_to ∷ length v.b_to ∷ length v.tap ∷ length v.shift ∷ length v.sw ∷ [])
 
 -- each column has n numbers
 pub record SizedValues (n : ℕ) (v : Values) : Type 0 where

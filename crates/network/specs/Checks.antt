@@ -1,6 +1,6 @@
 -- What 01 asks of the tables, table by table: refusal 7, and what it and the refusals of Missing leave.
 pub mod Laws
-use Rattle.std.specs.Prelude.{ℕ, ◌≤◌, Bool, ◌≡◌, leb, eqb, length}
+use Rattle.std.specs.Prelude.{ℕ, ◌≤◌, Bool, true, List, [], ◌∷◌, ◌≡◌, leb, eqb, length}
 use Rattle.real.specs.Tests.{both}
 use Rattle.network.specs.declared.Rows.{Rows}
 use Rattle.network.specs.Below.{Below}
@@ -12,30 +12,29 @@ sizes = row_counts 32 32 32 64 256
 
 -- ---- as tests
 
-abbrev pub same3 : ℕ → ℕ → ℕ → ℕ → Bool
-same3 n a b c = both (eqb a n) (both (eqb b n) (eqb c n))
-
-abbrev pub same7 : ℕ → ℕ → ℕ → ℕ → ℕ → ℕ → ℕ → ℕ → Bool
-same7 n a b c d e f g = both (same3 n a b c) (both (eqb d n) (same3 n e f g))
+-- each of these lengths is n
+abbrev pub same : ℕ → List ℕ → Bool
+same n [] = true
+same n (k ∷ ks) = both (eqb k n) (same n ks)
 
 -- no "count over its size", no "input columns of one table differ in length"
 abbrev pub buses_counted : Buses → Bool
 buses_counted t =
     let n = length t.kind in
     both (leb n 32)
-    (same7 n (length t.vm_set) (length t.pd) (length t.qd) (length t.pg) (length t.qg) (length t.vm_case) (length t.va_case))
+    (same n (length t.vm_set ∷ length t.pd ∷ length t.qd ∷ length t.pg ∷ length t.qg ∷ length t.vm_case ∷ length t.va_case ∷ []))
 
 abbrev pub slacks_counted : Slacks → Bool
 slacks_counted t = both (leb (length t.bus) 32) (eqb (length t.angle) (length t.bus))
 
 abbrev pub generators_counted : Generators → Bool
-generators_counted t = let n = length t.bus in both (leb n 32) (both (eqb (length t.qmin) n) (eqb (length t.qmax) n))
+generators_counted t = let n = length t.bus in both (leb n 32) (same n (length t.qmin ∷ length t.qmax ∷ []))
 
 abbrev pub branches_counted : Branches → Bool
 branches_counted t = both (leb (length t.from) 64) (eqb (length t.to) (length t.from))
 
 abbrev pub triplets_counted : Triplets → Bool
-triplets_counted t = let n = length t.row in both (leb n 256) (same3 n (length t.col) (length t.re) (length t.im))
+triplets_counted t = let n = length t.row in both (leb n 256) (same n (length t.col ∷ length t.re ∷ length t.im ∷ []))
 
 unfoldable pub counted : Network → Bool
 counted t =

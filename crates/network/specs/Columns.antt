@@ -16,9 +16,10 @@ use Rattle.network.specs.declared.TripletColumnsMut.{TripletColumnsMut}
 use Rattle.network.specs.declared.ValueColumns.{ValueColumns}
 use Rattle.network.specs.declared.ValueColumnsMut.{ValueColumnsMut}
 use Rattle.network.specs.declared.Tables.{Tables}
-use Rattle.network.specs.declared.TablesMut.{TablesMut}
 use Rattle.network.specs.declared.BranchTables.{BranchTables}
-use Rattle.network.specs.declared.BranchTablesMut.{BranchTablesMut}
+use Rattle.network.specs.declared.SourcesMut.{SourcesMut}
+use Rattle.network.specs.declared.LinesMut.{LinesMut}
+use Rattle.network.specs.declared.BranchTableMut.{BranchTableMut}
 
 -- ---- lent for reading
 
@@ -69,14 +70,14 @@ triplets_lent c = triplets_of c.row.now c.col.now c.re.now c.im.now
 abbrev pub values_lent : ValueColumnsMut → Values
 values_lent c = values_of c.g.now c.b.now c.g_fr.now c.b_fr.now c.g_to.now c.b_to.now c.tap.now c.shift.now c.sw.now
 
-abbrev pub network_lent : TablesMut → Network
-network_lent t = network_of (buses_lent t.buses) (slacks_lent t.slacks) (generators_lent t.generators) (branches_lent t.branches) (triplets_lent t.triplets)
+abbrev pub network_lent : SourcesMut → LinesMut → Network
+network_lent s l = network_of (buses_lent s.buses) (slacks_lent s.slacks) (generators_lent s.generators) (branches_lent l.branches) (triplets_lent l.triplets)
 
-abbrev pub branch_table_lent : BranchTablesMut → BranchTable
+abbrev pub branch_table_lent : BranchTableMut → BranchTable
 branch_table_lent t = branch_table_of (branches_lent t.ends) (values_lent t.values)
 
-abbrev pub branch_network_lent : BranchTablesMut → BranchNetwork
-branch_network_lent t = branch_network_of (buses_lent t.buses) (slacks_lent t.slacks) (generators_lent t.generators) (branch_table_lent t)
+abbrev pub branch_network_lent : SourcesMut → BranchTableMut → BranchNetwork
+branch_network_lent s t = branch_network_of (buses_lent s.buses) (slacks_lent s.slacks) (generators_lent s.generators) (branch_table_lent t)
 
 -- ---- the same columns, whatever they hold now
 
@@ -120,16 +121,15 @@ pub record SameValues (c d : ValueColumnsMut) : Type 0 where
   pub shift : d.shift.ghost_name ≡ c.shift.ghost_name
   pub sw : d.sw.ghost_name ≡ c.sw.ghost_name
 
-pub record SameTables (t u : TablesMut) : Type 0 where
-  pub buses : SameBuses t.buses u.buses
-  pub slacks : SameSlacks t.slacks u.slacks
-  pub generators : SameGenerators t.generators u.generators
-  pub branches : SameBranches t.branches u.branches
-  pub triplets : SameTriplets t.triplets u.triplets
+pub record SameSources (s t : SourcesMut) : Type 0 where
+  pub buses : SameBuses s.buses t.buses
+  pub slacks : SameSlacks s.slacks t.slacks
+  pub generators : SameGenerators s.generators t.generators
 
-pub record SameBranchTables (t u : BranchTablesMut) : Type 0 where
-  pub buses : SameBuses t.buses u.buses
-  pub slacks : SameSlacks t.slacks u.slacks
-  pub generators : SameGenerators t.generators u.generators
-  pub ends : SameBranches t.ends u.ends
-  pub values : SameValues t.values u.values
+pub record SameLines (s t : LinesMut) : Type 0 where
+  pub branches : SameBranches s.branches t.branches
+  pub triplets : SameTriplets s.triplets t.triplets
+
+pub record SameBranchTable (s t : BranchTableMut) : Type 0 where
+  pub ends : SameBranches s.ends t.ends
+  pub values : SameValues s.values t.values

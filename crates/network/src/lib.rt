@@ -1,14 +1,14 @@
 // The tables of a case: their columns, how many rows each has, and what 01 asks of them before anything is worked out.
 #![tactic(auto)]
 
-ghost use Rattle.std.specs.Prelude.{◌≡◌, ◌||◌, leb, length, zip};
-ghost use Rattle.std.specs.List.{position};
-ghost use Rattle.network.specs.Network.{fits_of, buses_room, slacks_room, generators_room, branches_room, triplets_room, room_of, RoomFor, first_rows};
+ghost use Rattle.std.specs.Prelude.{◌≡◌, ◌||◌, eqb, leb, length, zip};
+ghost use Rattle.std.specs.List.{list_all, position};
+ghost use Rattle.network.specs.Network.{fits_of, buses_room, slacks_room, generators_room, branches_room, triplets_room, row_counts, RoomFor, first_rows};
 ghost use Rattle.network.specs.Network.{RoomBuses, RoomSlacks, RoomGenerators, RoomBranches, RoomTriplets, first_buses, first_slacks, first_generators, first_branches, first_triplets};
 ghost use Rattle.network.specs.Columns.{buses_in, slacks_in, generators_in, branches_in, triplets_in, network_in, values_in, branch_table_in, branch_network_in};
-ghost use Rattle.network.specs.Columns.{buses_lent, slacks_lent, generators_lent, branches_lent, triplets_lent, network_lent, values_lent, branch_table_lent, branch_network_lent};
-ghost use Rattle.network.specs.Checks.{same3, same7, buses_counted, slacks_counted, generators_counted, branches_counted, triplets_counted, counted};
-ghost use Rattle.network.specs.BranchTable.{values_counted, values_room, branch_table_room, branch_room_of, RoomValues, RoomBranchTable, RoomForBranches, first_values, first_branch_table, first_branch_rows, with_triplets, no_triplets};
+ghost use Rattle.network.specs.Columns.{buses_lent, slacks_lent, generators_lent, branches_lent, triplets_lent, values_lent, branch_table_lent};
+ghost use Rattle.network.specs.Checks.{buses_counted, slacks_counted, generators_counted, branches_counted, triplets_counted, counted};
+ghost use Rattle.network.specs.BranchTable.{values_counted, values_room, branch_table_room, RoomValues, RoomBranchTable, RoomForBranches, first_values, first_branch_table, first_branch_rows, with_triplets, no_triplets};
 ghost use Rattle.network.specs.Missing.{in_column, first_field, in_ends, missing_in};
 
 // ---- the columns of a case, lent for reading
@@ -145,20 +145,24 @@ pub struct ValueColumnsMut<'a> {
     pub sw: &'a mut [f64],
 }
 
+// The tables that both editions have.
 #[derive(Drop)]
-pub struct TablesMut<'a> {
+pub struct SourcesMut<'a> {
     pub buses: BusColumnsMut<'a>,
     pub slacks: SlackColumnsMut<'a>,
     pub generators: GeneratorColumnsMut<'a>,
+}
+
+// Those of the first edition alone.
+#[derive(Drop)]
+pub struct LinesMut<'a> {
     pub branches: BranchColumnsMut<'a>,
     pub triplets: TripletColumnsMut<'a>,
 }
 
+// That of the second alone.
 #[derive(Drop)]
-pub struct BranchTablesMut<'a> {
-    pub buses: BusColumnsMut<'a>,
-    pub slacks: SlackColumnsMut<'a>,
-    pub generators: GeneratorColumnsMut<'a>,
+pub struct BranchTableMut<'a> {
     pub ends: BranchColumnsMut<'a>,
     pub values: ValueColumnsMut<'a>,
 }
@@ -190,18 +194,11 @@ pub fn fits(r: Rows, room: Rows) -> bool
 
 // ---- refusal 7: a count over its size, or columns of one table that differ in length
 
-#[tactic(auto, unfolding(real::specs::Tests::both))]
-fn equal3(n: usize, a: usize, b: usize, c: usize) -> bool
-    ensures { result ≡ same3 n a b c }
+// Whether each of these lengths is n.
+fn same<const N: usize>(n: usize, lengths: [usize; N]) -> bool
+    ensures { result ≡ list_all (λ k. eqb k n) lengths.entry }
 {
-    (a == n) & ((b == n) & (c == n))
-}
-
-#[tactic(auto, unfolding(real::specs::Tests::both))]
-fn equal7(n: usize, a: usize, b: usize, c: usize, d: usize, e: usize, f: usize, g: usize) -> bool
-    ensures { result ≡ same7 n a b c d e f g }
-{
-    equal3(n, a, b, c) & ((d == n) & equal3(n, e, f, g))
+    lengths.iter().all(|&k| k == n)
 }
 
 impl<'a> BusColumns<'a> {
@@ -210,17 +207,19 @@ impl<'a> BusColumns<'a> {
         ensures { result ≡ buses_counted (buses_in self.entry) }
     {
         let n = self.kind.len();
-        let same = equal7(
+        let equal = same(
             n,
-            self.vm_set.len(),
-            self.pd.len(),
-            self.qd.len(),
-            self.pg.len(),
-            self.qg.len(),
-            self.vm_case.len(),
-            self.va_case.len(),
+            [
+                self.vm_set.len(),
+                self.pd.len(),
+                self.qd.len(),
+                self.pg.len(),
+                self.qg.len(),
+                self.vm_case.len(),
+                self.va_case.len(),
+            ],
         );
-        (n <= 32) & same
+        (n <= 32) & equal
     }
 
     // The first n rows.
@@ -242,6 +241,22 @@ impl<'a> BusColumns<'a> {
 }
 
 impl BusColumnsMut<'_> {
+    // The same columns, for reading.
+    pub fn read(&self) -> BusColumns<'_>
+        ensures { buses_in result ≡ buses_lent self.now }
+    {
+        BusColumns {
+            kind: self.kind,
+            vm_set: self.vm_set,
+            pd: self.pd,
+            qd: self.qd,
+            pg: self.pg,
+            qg: self.qg,
+            vm_case: self.vm_case,
+            va_case: self.va_case,
+        }
+    }
+
     // How many rows there is room for.
     pub fn room(&self) -> usize
         ensures { result ≡ buses_room (buses_lent self.now) }
@@ -280,6 +295,16 @@ impl<'a> SlackColumns<'a> {
 }
 
 impl SlackColumnsMut<'_> {
+    // The same columns, for reading.
+    pub fn read(&self) -> SlackColumns<'_>
+        ensures { slacks_in result ≡ slacks_lent self.now }
+    {
+        SlackColumns {
+            bus: self.bus,
+            angle: self.angle,
+        }
+    }
+
     // How many rows there is room for.
     pub fn room(&self) -> usize
         ensures { result ≡ slacks_room (slacks_lent self.now) }
@@ -294,7 +319,7 @@ impl<'a> GeneratorColumns<'a> {
         ensures { result ≡ generators_counted (generators_in self.entry) }
     {
         let n = self.bus.len();
-        (n <= 32) & ((self.qmin.len() == n) & (self.qmax.len() == n))
+        (n <= 32) & same(n, [self.qmin.len(), self.qmax.len()])
     }
 
     // The first n rows.
@@ -311,6 +336,17 @@ impl<'a> GeneratorColumns<'a> {
 }
 
 impl GeneratorColumnsMut<'_> {
+    // The same columns, for reading.
+    pub fn read(&self) -> GeneratorColumns<'_>
+        ensures { generators_in result ≡ generators_lent self.now }
+    {
+        GeneratorColumns {
+            bus: self.bus,
+            qmin: self.qmin,
+            qmax: self.qmax,
+        }
+    }
+
     // How many rows there is room for.
     pub fn room(&self) -> usize
         ensures { result ≡ generators_room (generators_lent self.now) }
@@ -340,6 +376,16 @@ impl<'a> BranchColumns<'a> {
 }
 
 impl BranchColumnsMut<'_> {
+    // The same columns, for reading.
+    pub fn read(&self) -> BranchColumns<'_>
+        ensures { branches_in result ≡ branches_lent self.now }
+    {
+        BranchColumns {
+            from: self.from,
+            to: self.to,
+        }
+    }
+
     // How many rows there is room for.
     pub fn room(&self) -> usize
         ensures { result ≡ branches_room (branches_lent self.now) }
@@ -366,7 +412,7 @@ impl<'a> TripletColumns<'a> {
         ensures { result ≡ triplets_counted (triplets_in self.entry) }
     {
         let n = self.row.len();
-        (n <= 256) & equal3(n, self.col.len(), self.re.len(), self.im.len())
+        (n <= 256) & same(n, [self.col.len(), self.re.len(), self.im.len()])
     }
 
     // The first n rows.
@@ -384,6 +430,18 @@ impl<'a> TripletColumns<'a> {
 }
 
 impl TripletColumnsMut<'_> {
+    // The same columns, for reading.
+    pub fn read(&self) -> TripletColumns<'_>
+        ensures { triplets_in result ≡ triplets_lent self.now }
+    {
+        TripletColumns {
+            row: self.row,
+            col: self.col,
+            re: self.re,
+            im: self.im,
+        }
+    }
+
     // How many rows there is room for.
     pub fn room(&self) -> usize
         ensures { result ≡ triplets_room (triplets_lent self.now) }
@@ -401,17 +459,20 @@ impl<'a> ValueColumns<'a> {
     pub fn counted(self, n: usize) -> bool
         ensures { result ≡ values_counted n (values_in self.entry) }
     {
-        let same = equal7(
+        same(
             n,
-            self.g.len(),
-            self.b.len(),
-            self.g_fr.len(),
-            self.b_fr.len(),
-            self.g_to.len(),
-            self.b_to.len(),
-            self.tap.len(),
-        );
-        same & ((self.shift.len() == n) & (self.sw.len() == n))
+            [
+                self.g.len(),
+                self.b.len(),
+                self.g_fr.len(),
+                self.b_fr.len(),
+                self.g_to.len(),
+                self.b_to.len(),
+                self.tap.len(),
+                self.shift.len(),
+                self.sw.len(),
+            ],
+        )
     }
 
     // The first n rows.
@@ -434,6 +495,23 @@ impl<'a> ValueColumns<'a> {
 }
 
 impl ValueColumnsMut<'_> {
+    // The same columns, for reading.
+    pub fn read(&self) -> ValueColumns<'_>
+        ensures { values_in result ≡ values_lent self.now }
+    {
+        ValueColumns {
+            g: self.g,
+            b: self.b,
+            g_fr: self.g_fr,
+            b_fr: self.b_fr,
+            g_to: self.g_to,
+            b_to: self.b_to,
+            tap: self.tap,
+            shift: self.shift,
+            sw: self.sw,
+        }
+    }
+
     // How many rows there is room for.
     pub fn room(&self) -> usize
         ensures { result ≡ values_room (values_lent self.now) }
@@ -477,17 +555,17 @@ impl<'a> Tables<'a> {
     }
 }
 
-impl TablesMut<'_> {
-    // How many rows of each there is room for.
-    pub fn room(&self) -> Rows
-        ensures { result ≡ room_of (network_lent self.now) }
+impl SourcesMut<'_> {
+    // How many rows of each there is room for, beside so many branches and triplets.
+    pub fn room(&self, branches: usize, triplets: usize) -> Rows
+        ensures { result ≡ row_counts (buses_room (buses_lent self.now.buses)) (slacks_room (slacks_lent self.now.slacks)) (generators_room (generators_lent self.now.generators)) branches triplets }
     {
         Rows {
             buses: self.buses.room(),
             slacks: self.slacks.room(),
             generators: self.generators.room(),
-            branches: self.branches.room(),
-            triplets: self.triplets.room(),
+            branches,
+            triplets,
         }
     }
 }
@@ -521,18 +599,12 @@ impl<'a> BranchTables<'a> {
     }
 }
 
-impl BranchTablesMut<'_> {
-    // How many rows of each there is room for; a case of the second edition has no triplets.
-    pub fn room(&self) -> Rows
-        ensures { result ≡ branch_room_of (branch_network_lent self.now) }
+impl BranchTableMut<'_> {
+    // How many rows there is room for.
+    pub fn room(&self) -> usize
+        ensures { result ≡ branch_table_room (branch_table_lent self.now) }
     {
-        Rows {
-            buses: self.buses.room(),
-            slacks: self.slacks.room(),
-            generators: self.generators.room(),
-            branches: self.ends.room().min(self.values.room()),
-            triplets: 0,
-        }
+        self.ends.room().min(self.values.room())
     }
 }
 

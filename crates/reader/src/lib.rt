@@ -7,7 +7,7 @@ ghost use Rattle.network.specs.BranchTable.{values_of, branch_table_of};
 ghost use Rattle.case_text.specs.Answer.{read_result, paper_of};
 ghost use Rattle.reader.specs.Reader.{columns_of, read_of};
 
-use case_text::Reading;
+use case_text::{Contents, Refusal};
 use trailer::Edition;
 
 // Reads a case text: tells its edition and fills that edition's columns where it is good, one place per row. All other columns stay as they were, and all of
@@ -44,7 +44,7 @@ pub fn read_case(
     tap: &mut [f64],
     shift: &mut [f64],
     sw: &mut [f64],
-) -> Reading
+) -> Result<Contents, Refusal>
     ensures { let old = columns_of (network_of
         (buses_of kind.old vm_set.old pd.old qd.old pg.old qg.old vm_case.old va_case.old)
         (slacks_of slacks.old va_slacks.old)

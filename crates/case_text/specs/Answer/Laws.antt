@@ -1,10 +1,9 @@
 -- Where the sections of an answered text lie, that its rows fit, and what the tables then are. Assumes nothing.
-use Rattle.std.specs.Prelude.{◌≡◌, refl, true, cond, List, ℕ, ◌≤◌, length}
+use Rattle.std.specs.Prelude.{◌≡◌, refl, true, List, ℕ, ◌≤◌, length, Ok, Err}
 use Rattle.std.proofs.Math.Path.{sym, ap}
 use Rattle.std.proofs.Common.{◌∙◌, ⊎_elim, le_refl, arith}
 use Rattle.std.proofs.Math.Seq.{slice, length-sets}
 use Rattle.real.specs.Tests.{decided, no-case}
-use Rattle.real.specs.Paper.{Paper, given, refused, on_given}
 use Rattle.network.specs.declared.Rows.{Rows}
 use Rattle.network.specs.Network.{Buses, Slacks, Generators, Network, buses_room, slacks_room, generators_room, RoomBuses, RoomSlacks, RoomGenerators, RoomBranches, RoomTriplets, AtMost, room_of, fits_of}
 use Rattle.network.specs.Network.Laws.{fits-at-most, room-buses, room-slacks, room-generators, room-branches, room-triplets}
@@ -15,19 +14,18 @@ use Rattle.fields.specs.Real.{allowed}
 use Rattle.rows.specs.Asked.{size_of}
 use Rattle.rows.proofs.Printed.{section-rows, section-most}
 use Rattle.rows.specs.declared.Section.{Section}
-use Rattle.rows.specs.declared.Check.TheVariants as Check
 use Rattle.columns.specs.Columns.{row_count}
 use Rattle.trailer.specs.Trailer.{trailer_start, trailer_of, behind_g, last_of, section_start, section_end, bytes_of, places_of}
 use Rattle.trailer.specs.Trailer.Laws.{within, starts-b, starts-r, starts-g, starts-behind-g, starts-last, g-meets}
 use Rattle.trailer.specs.declared.Edition.{Edition}
 use Rattle.trailer.specs.declared.Edition.TheVariants.{First, Second}
-use Rattle.case_text.specs.Text.{part_by, part_of, triplet_part_of, checked_text}
+use Rattle.case_text.specs.Text.{Reading, part_by, part_of, triplet_part_of, checked_text}
 use Rattle.case_text.specs.Text.Laws.{Accepted, accepted-has}
 use Rattle.case_text.specs.Answer.{with_room, judged_of, filled_from, branches_from, tables_by, branch_tables_by, filled_of, branch_filled_of, read_result, paper_of, result_of}
 use Rattle.case_text.specs.Answer.{read_first_by, read_first, read_second_by, read_second}
 use Rattle.case_text.specs.declared.Contents.{Contents}
 use Rattle.trailer.specs.declared.Places.{Places}
-use Rattle.case_text.specs.declared.Reading.{Reading}
+use Rattle.case_text.specs.declared.Refusal.{Refusal}
 
 -- ---- a good answer: the text is accepted, and its rows fit
 
@@ -36,37 +34,33 @@ pub record Fitting (e : Edition) (s : List ℕ) (m : Rows) (c : Contents) : Type
   pub fits : fits_of c.rows m ≡ true
 
 -- the text is good and its rows fit, where the answer is good
-pub with_room_lem : (v : Reading) (m : Rows) (c : Contents) → with_room v m ≡ Reading.Good c → (v ≡ Reading.Good c) × (fits_of c.rows m ≡ true)
-with_room_lem v m c h = go (paper_of v) refl h
-  where
-    go : (p : Paper Contents) → paper_of v ≡ p → on_given p (λ d. cond (fits_of d.rows m) v Reading.Room) v ≡ Reading.Good c
-        → (v ≡ Reading.Good c) × (fits_of c.rows m ≡ true)
-    go (given d) e h =
-        ⊎_elim
-        (λ q. let g : v ≡ Reading.Good c = rw q at h in let i : d ≡ c = cc (ap paper_of g) in (g, rw i at q))
-        (λ q. let g : Reading.Room ≡ Reading.Good c = rw q at h in no-case cc)
-        (decided (fits_of d.rows m))
-    go (refused number values) e g = no-case (cc (ap paper_of g))
+pub with_room_lem : (v : Reading) (m : Rows) (c : Contents) → with_room v m ≡ Ok c → (v ≡ Ok c) × (fits_of c.rows m ≡ true)
+with_room_lem (Ok d) m c h =
+    ⊎_elim
+    (λ q. let g : ◌≡◌ {A = Reading} (Ok d) (Ok c) = rw q at h in let i : d ≡ c = cc in (g, rw i at q))
+    (λ q. let g : ◌≡◌ {A = Reading} (Err Refusal.Room) (Ok c) = rw q at h in no-case cc)
+    (decided (fits_of d.rows m))
+with_room_lem (Err f) m c h = no-case cc
 
 module _ (e : Edition) (s : List ℕ) where
-  pub fitting : (m : Rows) (c : Contents) → judged_of e s m ≡ Reading.Good c → Fitting e s m c
+  pub fitting : (m : Rows) (c : Contents) → judged_of e s m ≡ Ok c → Fitting e s m c
   fitting m c h = let k = with_room_lem (checked_text e s) m c h in record { accepted = accepted-has e s c k.0; fits = k.1 }
 
 -- ---- the sections' places, and that each table's rows fit its columns
 
-pub part-rows : (z : Section) (s : List ℕ) (t n : ℕ) → part_of z s t ≡ Check.Good n → n ≡ row_count (bytes_of z s t)
+pub part-rows : (z : Section) (s : List ℕ) (t n : ℕ) → part_of z s t ≡ Ok n → n ≡ row_count (bytes_of z s t)
 unfolding part_by
 part-rows z s t n h = section-rows z (section_start z s t) (bytes_of z s t) n h
 
-part-most : (z : Section) (s : List ℕ) (t n : ℕ) → part_of z s t ≡ Check.Good n → n ≤ size_of z
+part-most : (z : Section) (s : List ℕ) (t n : ℕ) → part_of z s t ≡ Ok n → n ≤ size_of z
 unfolding part_by
 part-most z s t n h = section-most z (section_start z s t) (bytes_of z s t) n h
 
-branches-most : (e : Edition) (s : List ℕ) (t n : ℕ) → part_of (behind_g e) s t ≡ Check.Good n → n ≤ 64
+branches-most : (e : Edition) (s : List ℕ) (t n : ℕ) → part_of (behind_g e) s t ≡ Ok n → n ≤ 64
 branches-most First s t n h = part-most Section.L s t n h
 branches-most Second s t n h = part-most Section.K s t n h
 
-triplets-most : (e : Edition) (s : List ℕ) (t n : ℕ) → triplet_part_of e s t ≡ Check.Good n → n ≤ 256
+triplets-most : (e : Edition) (s : List ℕ) (t n : ℕ) → triplet_part_of e s t ≡ Ok n → n ≤ 256
 triplets-most First s t n h = part-most Section.Y s t n h
 triplets-most Second s t n h = let none : 0 ≡ n = cc in omega arith
 
@@ -110,7 +104,7 @@ lines_end First s t h = (within First s t h Section.Y (starts-last First)).order
 lines_end Second s t h = le_refl (section_end Section.K s t)
 
 -- a part's rows are counted, so room for what is counted is room for them
-room-rows : (z : Section) (s : List ℕ) (t n k : ℕ) → part_of z s t ≡ Check.Good n → n ≤ k → row_count (slice (section_start z s t) (section_end z s t) s) ≤ k
+room-rows : (z : Section) (s : List ℕ) (t n k : ℕ) → part_of z s t ≡ Ok n → n ≤ k → row_count (slice (section_start z s t) (section_end z s t) s) ≤ k
 unfolding bytes_of
 room-rows z s t n k h m = rw (← part-rows z s t n h) m
 
@@ -135,7 +129,7 @@ module _ (e : Edition) (s : List ℕ) (m : Rows) (c : Contents) (f : Fitting e s
       }
 
 module _ (s : List ℕ) (m : Rows) (c : Contents) (p : Places) where
-  pub placed : (old : Network) → m ≡ room_of old → judged_of First s m ≡ Reading.Good c → p ≡ places_of First s (trailer_start First s) → PlacedFirst s old p
+  pub placed : (old : Network) → m ≡ room_of old → judged_of First s m ≡ Ok c → p ≡ places_of First s (trailer_start First s) → PlacedFirst s old p
   placed old r h q =
       let t = trailer_start First s in
       let f = fitting First s m c h in
@@ -146,7 +140,7 @@ module _ (s : List ℕ) (m : Rows) (c : Contents) (p : Places) where
         triplets = room-triplets _ old.triplets (room-rows Section.Y s t _ _ f.accepted.body.triplets fit.triplets);
       })
 
-  pub branches-placed : (old : BranchNetwork) → m ≡ branch_room_of old → judged_of Second s m ≡ Reading.Good c → p ≡ places_of Second s (trailer_start Second s)
+  pub branches-placed : (old : BranchNetwork) → m ≡ branch_room_of old → judged_of Second s m ≡ Ok c → p ≡ places_of Second s (trailer_start Second s)
       → PlacedSecond s old p
   branches-placed old r h q =
       let t = trailer_start Second s in
@@ -193,7 +187,7 @@ module _ {T : Type 0} (e : Edition) (s : List ℕ) (m n : Rows) (v : Reading) (r
   judged : judged_of e s n ≡ v
   judged = ap (judged_of e s) (sym r) ∙ sym h
 
-  result-good : (c : Contents) (new filled : T) → v ≡ Reading.Good c → new ≡ filled → read_result (paper_of v) new ≡ result_of (judged_of e s n) filled old
+  result-good : (c : Contents) (new filled : T) → v ≡ Ok c → new ≡ filled → read_result (paper_of v) new ≡ result_of (judged_of e s n) filled old
   result-good c new filled g w = rw (judged, g, w)
 
   result-refused : (filled : T) → result_of v filled old ≡ read_result (paper_of v) old → read_result (paper_of v) old ≡ result_of (judged_of e s n) filled old
@@ -201,7 +195,7 @@ module _ {T : Type 0} (e : Edition) (s : List ℕ) (m n : Rows) (v : Reading) (r
 
 module _ (s : List ℕ) (m : Rows) (v : Reading) where
   module _ (old : Network) (r : m ≡ room_of old) (h : v ≡ judged_of First s m) where
-    pub read-good : (c : Contents) (p : Places) (new : Network) → v ≡ Reading.Good c → p ≡ places_of First s (trailer_start First s) → new ≡ filled_by s p old
+    pub read-good : (c : Contents) (p : Places) (new : Network) → v ≡ Ok c → p ≡ places_of First s (trailer_start First s) → new ≡ filled_by s p old
         → read_result (paper_of v) new ≡ read_first s old
     unfolding read_first_by
     read-good c p new g q w =
@@ -212,7 +206,7 @@ module _ (s : List ℕ) (m : Rows) (v : Reading) where
     read-refused k = result-refused First s m (room_of old) v r h old _ (k _)
 
   module _ (old : BranchNetwork) (r : m ≡ branch_room_of old) (h : v ≡ judged_of Second s m) where
-    pub branches-read-good : (c : Contents) (p : Places) (new : BranchNetwork) → v ≡ Reading.Good c → p ≡ places_of Second s (trailer_start Second s)
+    pub branches-read-good : (c : Contents) (p : Places) (new : BranchNetwork) → v ≡ Ok c → p ≡ places_of Second s (trailer_start Second s)
         → new ≡ branch_filled_by s p old → read_result (paper_of v) new ≡ read_second s old
     unfolding read_second_by
     branches-read-good c p new g q w =

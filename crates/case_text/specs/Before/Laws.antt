@@ -1,6 +1,6 @@
 -- Every text that 01's digit rule accepted is read as it was, its columns too; any other first-edition text is answered as it was, or it is moved. 01's reader is
 -- that of the first edition. What is answered to any text is in proofs/Before. Assumes nothing.
-use Rattle.std.specs.Prelude.{ℕ, ◌+◌, ◌≤◌, ◌<◌, ◌≡◌, true, ◌⊎◌, List, ltb, drop}
+use Rattle.std.specs.Prelude.{ℕ, ◌+◌, ◌≤◌, ◌<◌, ◌≡◌, true, ◌⊎◌, List, ltb, drop, Ok, Err}
 use Rattle.std.proofs.Math.Path.{refl, sym}
 use Rattle.std.proofs.Common.{◌∙◌, arith}
 use Rattle.std.proofs.Math.Logic.{inl, inr, ⊎_elim}
@@ -18,7 +18,8 @@ use Rattle.rows.specs.Before.{Behind, Moved}
 use Rattle.rows.specs.Before.Laws.{section-behind}
 use Rattle.rows.proofs.Before.{check-before}
 use Rattle.rows.specs.declared.Section.{Section}
-use Rattle.rows.specs.declared.Check.{Check}
+use Rattle.rows.specs.declared.Fault.{Fault}
+use Rattle.rows.specs.Rows.{Check}
 use Rattle.columns.specs.Columns.{filled_branches}
 use Rattle.columns.specs.Figures.{RowsSound}
 use Rattle.columns.specs.Before.{buses-kept, slacks-kept, generators-kept, triplets-kept}
@@ -26,14 +27,14 @@ use Rattle.trailer.specs.Trailer.{trailer_length, trailer_start, trailer_of, Sta
 use Rattle.trailer.specs.Trailer.Laws.{Within, within, starts-b, starts-r, starts-g, starts-behind-g, starts-last}
 use Rattle.trailer.specs.declared.Edition.TheVariants.{First}
 use Rattle.case_text.specs.Alphabet.{known_of}
-use Rattle.case_text.specs.Text.{then_section, part_by, part_of, after_l, after_g, after_r, after_b, body_by, body_of, after_trailer, after_length, text_by, checked_text, text_of}
+use Rattle.case_text.specs.Text.{Reading, then_section, part_by, part_of, after_l, after_g, after_r, after_b, body_by, body_of, after_trailer, after_length, text_by, checked_text, text_of}
 use Rattle.case_text.specs.Text.Laws.{has-by}
 use Rattle.case_text.specs.Answer.{paper_of, with_room, tables_by, filled_of, read_result, read_first_by, read_first}
 use Rattle.case_text.specs.Printed.Laws.{slice-join}
 use Rattle.case_text.specs.Old.{accepted-first}
 use Rattle.case_text.specs.Before.{BehindText, MovedText}
 use Rattle.case_text.specs.declared.Contents.{Contents}
-use Rattle.case_text.specs.declared.Reading.{Reading}
+use Rattle.case_text.specs.declared.Refusal.{Refusal}
 
 -- the same reading, or one that is moved
 abbrev pub SameOrMoved : List ℕ → ℕ → Reading → Reading → Type 0
@@ -42,17 +43,15 @@ SameOrMoved s t v v' = (v ≡ v') ⊎ MovedText s t v v'
 -- ---- a section and what follows it
 
 then-behind : (p : ℕ) (v : Check) (k : ℕ → Reading) → Behind p v → ((n : ℕ) → BehindText p (k n)) → BehindText p (then_section v k)
-then-behind p (Check.Good n) k h g = g n
-then-behind p (Check.Rows n) k h g = h
-then-behind p (Check.Form n) k h g = h
-then-behind p (Check.Field n) k h g = h
+then-behind p (Ok n) k h g = g n
+then-behind p (Err (Fault.Rows n)) k h g = h
+then-behind p (Err (Fault.Form n)) k h g = h
+then-behind p (Err (Fault.Field n)) k h g = h
 
 module _ (s : List ℕ) (t : ℕ) where
   then_same : (v : Check) (k k' : ℕ → Reading) → ((n : ℕ) → SameOrMoved s t (k n) (k' n)) → SameOrMoved s t (then_section v k) (then_section v k')
-  then_same (Check.Good n) k k' h = h n
-  then_same (Check.Rows n) k k' h = inl refl
-  then_same (Check.Form n) k k' h = inl refl
-  then_same (Check.Field n) k k' h = inl refl
+  then_same (Ok n) k k' h = h n
+  then_same (Err f) k k' h = inl refl
 
   -- a trailer at t is good, and t lies in the text
   module _ (good : trailer_of First s t ≡ true) (room : t ≤ length s) where
@@ -136,20 +135,20 @@ module _ (s : List ℕ) where
       ⊎_elim (λ q. inl (rw q)) (λ q. rw q (⊎_elim (λ r. inl (rw r)) (λ r. rw r length_before) (decided (ltb 32768 (length s))))) (decided (ltb (length s) (trailer_length First)))
 
   -- one that was accepted is, by the same edition's rules
-  first-kept : (c : Contents) → text_by allowed_before First s ≡ Reading.Good c → checked_text First s ≡ Reading.Good c
-  first-kept c h = ⊎_elim (λ e. sym e ∙ h) (λ m. let f : Reading.Good c ≡ Reading.Field m.place = sym h ∙ m.was in no-case cc) text-before
+  first-kept : (c : Contents) → text_by allowed_before First s ≡ Ok c → checked_text First s ≡ Ok c
+  first-kept c h = ⊎_elim (λ e. sym e ∙ h) (λ m. let f : ◌≡◌ {A = Reading} (Ok c) (Err (Refusal.Field m.place)) = sym h ∙ m.was in no-case cc) text-before
 
   -- and so by its own
-  pub text-kept : (c : Contents) → text_by allowed_before First s ≡ Reading.Good c → text_of s ≡ Reading.Good c
+  pub text-kept : (c : Contents) → text_by allowed_before First s ≡ Ok c → text_of s ≡ Ok c
   text-kept c h = rw (accepted-first allowed_before s c h) (first-kept c h)
 
   -- ---- the columns
 
-  sound-before : (z : Section) (n : ℕ) → part_by allowed_before z s (trailer_start First s) ≡ Check.Good n → RowsSound allowed_before z (bytes_of z s (trailer_start First s))
+  sound-before : (z : Section) (n : ℕ) → part_by allowed_before z s (trailer_start First s) ≡ Ok n → RowsSound allowed_before z (bytes_of z s (trailer_start First s))
   unfolding part_by
   sound-before z n h = section-sound allowed_before z (section_start z s (trailer_start First s)) (bytes_of z s (trailer_start First s)) n h
 
-  module _ (c : Contents) (h : text_by allowed_before First s ≡ Reading.Good c) (old : Network) where
+  module _ (c : Contents) (h : text_by allowed_before First s ≡ Ok c) (old : Network) where
     tables-kept : filled_of s (trailer_start First s) old ≡ tables_by allowed_before s (trailer_start First s) old
     unfolding tables_by
     tables-kept =
@@ -163,5 +162,5 @@ module _ (s : List ℕ) where
     pub read_kept : read_first s old ≡ read_first_by allowed_before s old
     unfolding read_first_by
     read_kept =
-        let v = with_room (Reading.Good c) (room_of old) in
+        let v = with_room (Ok c) (room_of old) in
         rw (h, first-kept c h) (λ i. read_result (paper_of v) (on_given (paper_of v) (λ d. tables-kept i) old))

@@ -12,7 +12,7 @@ use Rattle.real.specs.Tests.{decided, true-false, below_or}
 use Rattle.fields.specs.Digits.{digits}
 use Rattle.fields.specs.Real.{amount_by, real_of, or_nan_of}
 use Rattle.rows.specs.Rows.{rows_of}
-use Rattle.rows.specs.Rows.Laws.{rows_more, rows-room, rows_last}
+use Rattle.rows.specs.Rows.Laws.{rows_more, rows-room, rows_last, rows_end}
 use Rattle.columns.specs.Columns.{row_count, number_field, column_of, filled}
 
 -- ---- a field by its number
@@ -52,6 +52,9 @@ module _ {A : Type 0} (g : List ℕ → A) (s : List ℕ) (a e : ℕ) (old : Lis
   fill-starts h k = record { within = h; long = refl; room = omega arith; same = refl }
 
   module _ (i r : ℕ) (out : List A) (w : Filling g s a e old i r out) where
+    pub fill-ends : i ≡ e → out ≡ filled g (slice a e s) old
+    fill-ends q = rw (rows_end s i e q) at w.same
+
     -- where the column ends no row is left
     pub fill-full : length out ≤ r → out ≡ filled g (slice a e s) old
     fill-full q = rw (no-items (rows_of (slice i e s)) (omega (arith, w.room))) at w.same

@@ -8,22 +8,18 @@ use Rattle.islands.proofs.join_all.Goals as goal
 
 pub loop-k-init : goal.loop-k-init
 unfolding group_of
-loop-k-init c = (omega arith, (λ i. 0, c.alone-parent.ensures))
+loop-k-init c = (λ i. 0, c.alone-parent.ensures)
 
 pub join-requires : goal.join-requires
 join-requires c =
     let e = c.requires.below c.loop-k.k (omega arith) in
-    (e.0, e.1, (c.loop-k.invariant.1.0, _, c.loop-k.invariant.1.1))
+    (e.0, e.1, (c.loop-k.invariant.0, _, c.loop-k.invariant.1))
 
 pub loop-k-preserved : goal.loop-k-preserved
 unfolding group_of
-loop-k-preserved c =
-    let l = c.loop-k in (
-      omega arith,
-      rw add-one (c.join.ensures l.invariant.1.0 _ l.invariant.1.1),
-    )
+loop-k-preserved c = rw add-one (c.join.ensures c.loop-k.invariant.0 _ c.loop-k.invariant.1)
 
 pub returns : goal.returns
 returns c =
     let e : c.loop-k.k ≡ length c.args.br_from.now = omega arith in
-    rw e at c.loop-k.invariant.1
+    rw e at c.loop-k.invariant

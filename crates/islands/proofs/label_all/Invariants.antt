@@ -1,5 +1,5 @@
 -- `islands::label_all` meets its contract. The invariant: the roots are as they were, and the buses passed have their labels. Assumes nothing.
-use Prim.Native.Nat.{ℕ, ◌≤◌, ◌-◌}
+use Prim.Native.Nat.{ℕ}
 use mathlib.Core.Path.{◌≡◌}
 use Rattle.real.specs.Each.{each}
 use Rattle.islands.specs.Forest.{Forest}
@@ -8,8 +8,5 @@ use Rattle.islands.proofs.Numbering.{Numbered}
 use Rattle.islands.proofs.label_all.Given as goal
 
 abbrev pub invariant-loop-bus : goal.invariant-loop-bus
-invariant-loop-bus l = (l.bus ≤ l.n)
-    × ((rank root : ℕ → ℕ) → Forest rank root l.initial.parent → Forest rank root l.parent × Numbered root l.bus l.label × (l.out ≡ label_table l.bus (each l.bus (label_by root))))
-
-abbrev pub decreases-loop-bus : goal.decreases-loop-bus
-decreases-loop-bus l = l.n - l.bus
+invariant-loop-bus l =
+    (rank root : ℕ → ℕ) → Forest rank root l.initial.parent → Forest rank root l.parent × Numbered root l.bus l.labels × (l.out ≡ label_table l.bus (each l.bus (label_by root)))

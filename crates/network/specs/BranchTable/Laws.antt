@@ -15,20 +15,24 @@ use Rattle.network.specs.BranchTable.{RoomValues, RoomBranchTable, RoomForBranch
 pub values-sized : (n : ℕ) (v : Values) → values_counted n v ≡ true → SizedValues n v
 unfolding values_counted
 values-sized n v h =
-    let same = both_l _ _ h in
-    let front = both_l _ _ same in
-    let back = both_r _ _ same in
-    let last = both_r _ _ back in
+    let e₁ = both_r _ _ h in
+    let e₂ = both_r _ _ e₁ in
+    let e₃ = both_r _ _ e₂ in
+    let e₄ = both_r _ _ e₃ in
+    let e₅ = both_r _ _ e₄ in
+    let e₆ = both_r _ _ e₅ in
+    let e₇ = both_r _ _ e₆ in
+    let e₈ = both_r _ _ e₇ in
     record {
-      g = eqb-true _ _ (both_l _ _ front);
-      b = eqb-true _ _ (both_l _ _ (both_r _ _ front));
-      g_fr = eqb-true _ _ (both_r _ _ (both_r _ _ front));
-      b_fr = eqb-true _ _ (both_l _ _ back);
-      g_to = eqb-true _ _ (both_l _ _ last);
-      b_to = eqb-true _ _ (both_l _ _ (both_r _ _ last));
-      tap = eqb-true _ _ (both_r _ _ (both_r _ _ last));
-      shift = eqb-true _ _ (both_l _ _ (both_r _ _ h));
-      sw = eqb-true _ _ (both_r _ _ (both_r _ _ h));
+      g = eqb-true _ _ (both_l _ _ h);
+      b = eqb-true _ _ (both_l _ _ e₁);
+      g_fr = eqb-true _ _ (both_l _ _ e₂);
+      b_fr = eqb-true _ _ (both_l _ _ e₃);
+      g_to = eqb-true _ _ (both_l _ _ e₄);
+      b_to = eqb-true _ _ (both_l _ _ e₅);
+      tap = eqb-true _ _ (both_l _ _ e₆);
+      shift = eqb-true _ _ (both_l _ _ e₇);
+      sw = eqb-true _ _ (both_l _ _ e₈);
     }
 
 pub sized-values : (n : ℕ) (v : Values) → SizedValues n v → values_counted n v ≡ true

@@ -12,23 +12,28 @@ use Rattle.network.specs.Network.Laws.{room-buses, room-slacks, room-generators,
 use Rattle.network.specs.Checks.{sizes, buses_counted, slacks_counted, generators_counted, branches_counted, triplets_counted, counted}
 use Rattle.network.specs.Checks.{SizedBuses, SizedSlacks, SizedGenerators, SizedBranches, SizedTriplets, WellIndexed}
 
+-- ---- lengths that are all n
+
 -- ---- each table's test tells its facts
 
 pub buses-sized : (t : Buses) → buses_counted t ≡ true → SizedBuses t
 buses-sized t h =
-    let same = both_r _ _ h in
-    let front = both_l _ _ same in
-    let back = both_r _ _ same in
-    let last = both_r _ _ back in
+    let e = both_r _ _ h in
+    let e₁ = both_r _ _ e in
+    let e₂ = both_r _ _ e₁ in
+    let e₃ = both_r _ _ e₂ in
+    let e₄ = both_r _ _ e₃ in
+    let e₅ = both_r _ _ e₄ in
+    let e₆ = both_r _ _ e₅ in
     record {
       few = leb-true _ _ (both_l _ _ h);
-      vm_set = eqb-true _ _ (both_l _ _ front);
-      pd = eqb-true _ _ (both_l _ _ (both_r _ _ front));
-      qd = eqb-true _ _ (both_r _ _ (both_r _ _ front));
-      pg = eqb-true _ _ (both_l _ _ back);
-      qg = eqb-true _ _ (both_l _ _ last);
-      vm_case = eqb-true _ _ (both_l _ _ (both_r _ _ last));
-      va_case = eqb-true _ _ (both_r _ _ (both_r _ _ last));
+      vm_set = eqb-true _ _ (both_l _ _ e);
+      pd = eqb-true _ _ (both_l _ _ e₁);
+      qd = eqb-true _ _ (both_l _ _ e₂);
+      pg = eqb-true _ _ (both_l _ _ e₃);
+      qg = eqb-true _ _ (both_l _ _ e₄);
+      vm_case = eqb-true _ _ (both_l _ _ e₅);
+      va_case = eqb-true _ _ (both_l _ _ e₆);
     }
 
 pub slacks-sized : (t : Slacks) → slacks_counted t ≡ true → SizedSlacks t
@@ -36,17 +41,28 @@ slacks-sized t h = record { few = leb-true _ _ (both_l _ _ h); angle = eqb-true 
 
 pub generators-sized : (t : Generators) → generators_counted t ≡ true → SizedGenerators t
 generators-sized t h =
-    let same = both_r _ _ h in
-    record { few = leb-true _ _ (both_l _ _ h); qmin = eqb-true _ _ (both_l _ _ same); qmax = eqb-true _ _ (both_r _ _ same) }
+    let e = both_r _ _ h in
+    let e₁ = both_r _ _ e in
+    record {
+      few = leb-true _ _ (both_l _ _ h);
+      qmin = eqb-true _ _ (both_l _ _ e);
+      qmax = eqb-true _ _ (both_l _ _ e₁);
+    }
 
 pub branches-sized : (t : Branches) → branches_counted t ≡ true → SizedBranches t
 branches-sized t h = record { few = leb-true _ _ (both_l _ _ h); to = eqb-true _ _ (both_r _ _ h) }
 
 pub triplets-sized : (t : Triplets) → triplets_counted t ≡ true → SizedTriplets t
 triplets-sized t h =
-    let same = both_r _ _ h in
-    let last = both_r _ _ same in
-    record { few = leb-true _ _ (both_l _ _ h); col = eqb-true _ _ (both_l _ _ same); re = eqb-true _ _ (both_l _ _ last); im = eqb-true _ _ (both_r _ _ last) }
+    let e = both_r _ _ h in
+    let e₁ = both_r _ _ e in
+    let e₂ = both_r _ _ e₁ in
+    record {
+      few = leb-true _ _ (both_l _ _ h);
+      col = eqb-true _ _ (both_l _ _ e);
+      re = eqb-true _ _ (both_l _ _ e₁);
+      im = eqb-true _ _ (both_l _ _ e₂);
+    }
 
 -- ---- all of them
 

@@ -6,10 +6,10 @@ use Rattle.network.specs.BranchTable.{BranchNetwork}
 use Rattle.trailer.specs.Trailer.{edition_of}
 use Rattle.trailer.specs.declared.Edition.{Edition}
 use Rattle.trailer.specs.declared.Edition.TheVariants.{First, Second}
-use Rattle.case_text.specs.declared.Reading.{Reading}
 use Rattle.case_text.specs.Answer.{read_result, paper_of, read_first, read_second}
 use Rattle.case_text.proofs.Unique.{one-result}
 use Rattle.reader.specs.Reader.{Columns, columns_of, branches_in, with_first, with_second, read_of}
+use Rattle.case_text.specs.Text.{Reading}
 
 module _ (s : List ℕ) (old : Columns) (x : Edition) (is : x ≡ edition_of s) where
   pub read-as-first : x ≡ First → (v : Reading) (new : Network) → read_result (paper_of v) new ≡ read_first s old.network

@@ -1,6 +1,6 @@
 -- The turns of the loop over a trailer's groups; what a good trailer of k groups says, and that its numbers rise to its own start; where the
 -- sections lie; and that a text of the second edition has no first-edition trailer. Assumes nothing.
-use Rattle.std.specs.Prelude.{◌≡◌, refl, true, false, ◌&&◌, List, eqb, length, get_or, None, Some, is_some}
+use Rattle.std.specs.Prelude.{◌≡◌, refl, true, false, ◌&&◌, List, eqb, length, get_or, None, Some, is_some, unwrap_or}
 use Rattle.std.proofs.Common.{sym, ◌∙◌, add-zero, add-one}
 use Rattle.std.proofs.Math.Bool.{Bool, and-false}
 use Rattle.std.proofs.Math.Logic.{⊎_elim}
@@ -8,9 +8,10 @@ use Prim.Native.Nat.{ℕ, zero, suc, ◌+◌, ◌-◌, ◌*◌, ◌≤◌, ◌<�
 use native.Mathlib.Omega.{arith}
 use Rattle.std.proofs.Math.Dec.{leb}
 use borrow.Author.Tests.{eqb-true, leb-true, le-leb, lt-leb}
-use Rattle.real.specs.Tests.{and_left, and_right, decided, no-case}
+use Rattle.real.specs.Tests.{and_left, and_right, nor-left, nor-right, decided, no-case}
 use Rattle.rows.specs.declared.Section.{Section}
-use Rattle.trailer.specs.Trailer.{groups_of, trailer_length, trailer_start, group_at, start_at, group_number, rising_of, flagged, asked_of, edition_of, trailer_by, trailer_of, index_of, behind_g, last_of, Starts, section_start, section_end}
+use Rattle.trailer.specs.Trailer.{groups_of, trailer_length, trailer_start, group_at, start_at, group_number, rising_of, flat_letter, case_letter, flagged, mode_of, asked_of, edition_of, trailer_by, trailer_of, index_of, behind_g, last_of, Starts, section_start, section_end}
+use Rattle.starts.specs.declared.AcStart.TheVariants.{Case}
 use Rattle.trailer.specs.declared.Edition.{Edition}
 use Rattle.trailer.specs.declared.Edition.TheVariants.{First, Second}
 
@@ -156,6 +157,10 @@ within e s t h z b =
     record { ordered = w.never_fall (index_of z) b; inside = w.inside (index_of z + 1) b }
 
 -- ---- which flag, and which edition
+
+-- no other byte is the letter of a flat start
+pub asked-mode : (e : Edition) (b : ℕ) → unwrap_or (asked_of e b) Case ≡ mode_of e b
+asked-mode e b = ⊎_elim (λ q. rw q) (λ q. rw (nor-left (eqb b (flat_letter e)) (eqb b (case_letter e)) q, nor-right (eqb b (flat_letter e)) (eqb b (case_letter e)) q)) (decided (flagged e b))
 
 pub asked-flagged : (e : Edition) (b : ℕ) → is_some (asked_of e b) ≡ flagged e b
 asked-flagged e b = ⊎_elim (λ q. rw q) (λ q. rw q) (decided (flagged e b))

@@ -6,7 +6,7 @@ use Rattle.trig.specs.Sine.{pair}
 use Rattle.trig.proofs.Range.{in-range}
 use Rattle.trig.proofs.Whole.{assembled, outside_low, outside_high}
 use Rattle.trig.proofs.sin_cos.Goals as goal
-use Rattle.trig.proofs.sin_cos.Goals.{else-x, then-x+else-x-2}
+use Rattle.trig.proofs.sin_cos.Goals.{else-x-via-then-x+else-x-2, else-x-via-else-x}
 
 pub nearest-t-requires : goal.nearest-t-requires
 unfolding neg of_bits
@@ -24,4 +24,5 @@ returns-then-x-2 c =
 
 pub returns : goal.returns
 unfolding neg of_bits div pair
-returns c = elim c.if-x.branch [ then-x+else-x-2 w ↦ outside_high c.args.x w.if-x-2.false | else-x w ↦ outside_low c.args.x w.if-x.false ]
+returns c =
+    elim c.else-x.branch [ else-x-via-then-x+else-x-2 w ↦ outside_high c.args.x w.if-x-2.false | else-x-via-else-x w ↦ outside_low c.args.x w.if-x.false ]
