@@ -2,7 +2,8 @@
 -- accepted steps, except that 50 reads 49. The workspace goes through all of it, so that its places are known at the end too.
 pub mod Laws
 pub mod Space
-use Rattle.std.specs.Prelude.{ℕ, zero, suc, ◌+◌, ◌≤◌, true, false, cond, List, length, get_or, Float, Ok, Err}
+use Rattle.std.specs.Prelude.{ℕ, zero, suc, ◌+◌, ◌≤◌, cond, List, length, get_or, Float, Option, None, Some, Ok, Err}
+use Rattle.std.specs.Option.{option_or}
 use Rattle.std.specs.Float.{nan, binary64}
 use Rattle.std.specs.Float.Ieee.{mul, lt}
 use Rattle.real.specs.Literals.{one, half, tolerance}
@@ -11,9 +12,11 @@ use Rattle.layout.specs.declared.AcPfLayout.{AcPfLayout}
 use Rattle.layout.specs.Residual.{powers, residual_of}
 use Rattle.linsolve.specs.Linear.{Answer, Outcome, answer_of, space_of, cleared, with_sides, solution}
 use Rattle.network.specs.Network.{Triplets}
+use Rattle.network.specs.Columns.{triplets_in}
 use Rattle.injections.specs.Injections.{GoodTriplets, injections_of}
 use Rattle.injections.specs.Jacobian.{jacobian_of}
 use Rattle.layout.specs.declared.Point.{Point}
+use Rattle.newton.specs.declared.NewtonProblem.{NewtonProblem}
 use Rattle.newton.specs.declared.Measured.{Measured}
 use Rattle.newton.specs.declared.Trial.{Trial}
 use Rattle.newton.specs.declared.Ending.{Ending}
@@ -32,6 +35,10 @@ pub record Problem : Type 0 where
 
 abbrev pub problem : Triplets → AcPfLayout → List Float → List Float → List Float → List Float → Problem
 problem y layout pd qd pg qg = record { y = y; layout = layout; pd = pd; qd = qd; pg = pg; qg = qg }
+
+-- the same of the program's columns
+abbrev pub problem_in : NewtonProblem → Problem
+problem_in g = problem (triplets_in g.y) g.layout g.pd.now g.qd.now g.pg.now g.qg
 
 -- what the callers have checked
 pub record GoodProblem (g : Problem) : Type 0 where
@@ -60,26 +67,20 @@ direction_of y l va m w = solution l.dim (sides_to l.dim m.r (jacobian_of y va m
 
 -- ---- the length. `at` measures a point
 
-abbrev pub kept_trial : Point → Measured → Trial
-kept_trial p m = record { taken = false; point = p; at = m }
-
 abbrev pub taken_trial : Point → Measured → Trial
-taken_trial p m = record { taken = true; point = p; at = m }
+taken_trial p m = record { point = p; at = m }
 
 -- one length: taken only if the trial is fit and its norm strictly lower
-unfoldable pub attempt_of : (Point → Measured) → AcPfLayout → Point → Measured → List Float → Float → Trial
+unfoldable pub attempt_of : (Point → Measured) → AcPfLayout → Point → Measured → List Float → Float → Option Trial
 attempt_of at l p m w alpha =
     let t = step_of l p w alpha in
     let tm = at t in
-    cond (unfit_to l.n t) (kept_trial p m) (cond (lt tm.residual m.residual) (taken_trial t tm) (kept_trial p m))
+    cond (unfit_to l.n t) None (cond (lt tm.residual m.residual) (Some (taken_trial t tm)) None)
 
--- the first of the next k lengths that is taken
-unfoldable pub tries_from : ℕ → (Point → Measured) → AcPfLayout → Point → Measured → List Float → Float → Trial
-tries_from zero at l p m w alpha = kept_trial p m
-tries_from (suc k) at l p m w alpha =
-    let a = attempt_of at l p m w alpha in
-    let rest = tries_from k at l p m w (mul binary64 alpha half) in
-    cond a.taken a rest
+-- the first of the next k lengths that is taken, if one is
+unfoldable pub tries_from : ℕ → (Point → Measured) → AcPfLayout → Point → Measured → List Float → Float → Option Trial
+tries_from zero at l p m w alpha = None
+tries_from (suc k) at l p m w alpha = option_or (attempt_of at l p m w alpha) (tries_from k at l p m w (mul binary64 alpha half))
 
 -- ---- the steps
 
@@ -104,16 +105,19 @@ abbrev pub by_solution : Answer → (ℕ → Run) → Run → Run
 by_solution (Ok x) f r = r
 by_solution (Err s) f r = f s.column
 
+-- f of the trial that is taken, r where none is
+abbrev pub by_trial : Option Trial → (Trial → Run) → Run → Run
+by_trial (Some t) f r = f t
+by_trial None f r = r
+
 -- the next k steps, of which `it` are done
 unfoldable pub steps_from : ℕ → ℕ → (Point → Measured) → Triplets → AcPfLayout → Point → Measured → List Float → Run
 steps_from zero it at y l p m w = run (ended p 49 m (last_ending m.residual)) w
 steps_from (suc k) it at y l p m w =
     let o = direction_of y l p.va m w in
-    let t = tries_from 12 at l p m (space_of o) one in
-    let rest = steps_from k (it + 1) at y l t.point t.at (space_of o) in
     cond (lt m.residual tolerance) (run (ended p it m Converged) w)
     (by_solution (answer_of o) (λ c. run (ended p it m (Singular c)) (space_of o))
-    (cond t.taken rest (run (ended p it m Stuck) (space_of o))))
+    (by_trial (tries_from 12 at l p m (space_of o) one) (λ t. steps_from k (it + 1) at y l t.point t.at (space_of o)) (run (ended p it m Stuck) (space_of o))))
 
 unfoldable pub newton_of : Problem → Point → List Float → Run
 newton_of g p w = steps_from 50 0 (measured_of g) g.y g.layout p (measured_of g p) w

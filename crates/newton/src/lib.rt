@@ -4,15 +4,27 @@
 ghost use Rattle.std.specs.Prelude.{◌≡◌, ◌≤◌, length};
 ghost use Rattle.real.specs.Literals.{one};
 ghost use Rattle.linsolve.specs.Linear.{outcome};
-ghost use Rattle.network.specs.Network.{Triplets, triplets_of};
+ghost use Rattle.network.specs.Columns.{triplets_in};
 ghost use Rattle.injections.specs.Injections.{GoodTriplets};
 ghost use Rattle.newton.specs.Step.{moved_by, step_of, unfit_at, unfit_to};
-ghost use Rattle.newton.specs.Newton.{Problem, problem, GoodProblem, measured_of, sides_to, direction_of, attempt_of, tries_from, last_ending, run, newton_of};
+ghost use Rattle.newton.specs.Newton.{problem_in, GoodProblem, measured_of, sides_to, direction_of, attempt_of, tries_from, ended, last_ending, run, newton_of};
 
 use injections::Phasors;
-use layout::{AcPfLayout, Point};
+use layout::{AcPfLayout, NONE, Point, PowerColumns};
 use linsolve::Singular;
+use network::TripletColumns;
 use real::TOL;
+
+// What stays the same through a run: the triplets, the layout, demands and scheduled generation.
+#[derive(Clone, Copy)]
+pub struct NewtonProblem<'a> {
+    pub y: TripletColumns<'a>,
+    pub layout: AcPfLayout,
+    pub pd: &'a [f64],
+    pub qd: &'a [f64],
+    pub pg: &'a [f64],
+    pub qg: [f64; 32],
+}
 
 // What was worked out at a point: voltages and currents, the mismatch at each row, and its norm.
 #[derive(Clone, Copy)]
@@ -22,16 +34,15 @@ pub struct Measured {
     pub residual: f64,
 }
 
-// A length tried: where it was taken, the new point with what was worked out there, else the old.
+// A trial that was taken: the new point, with what was worked out there.
 #[derive(Clone, Copy)]
 struct Trial {
-    taken: bool,
     point: Point,
     at: Measured,
 }
 
 // How the steps ended: below the tolerance, at a column without a pivot, no length helped, or all were spent.
-#[derive(Clone, Copy)]
+#[derive(Clone, Copy, Debug, PartialEq, Eq)]
 pub enum Ending {
     Converged,
     Singular(usize),
@@ -39,6 +50,7 @@ pub enum Ending {
     Spent,
 }
 
+// The point where the steps ended, how many were accepted, what was worked out there, and why they ended.
 #[derive(Clone, Copy)]
 pub struct Ended {
     pub point: Point,
@@ -55,39 +67,27 @@ fn moved(x: f64, c: usize, alpha: f64, w: &[f64]) -> f64
     requires { 4160 ≤ length w.now }
     ensures { result ≡ moved_by x c alpha w.now }
 {
-    if c < 64 {
-        let at = 4096 + c;
-        return x + alpha * w[at];
-    }
-    x
+    if c < NONE { x + alpha * w[4096 + c] } else { x }
 }
 
 fn take_step(layout: AcPfLayout, p: Point, w: &[f64], alpha: f64) -> Point
     requires { (layout.n ≤ 32) × (4160 ≤ length w.now) }
     ensures { result ≡ step_of layout p w.now alpha }
 {
-    let n = layout.n;
     let mut t = p;
-    for b in 0..n {
-        let a = moved(p.va[b], layout.va_of[b], alpha, w);
-        t.va[b] = a;
-        let m = moved(p.vm[b], layout.vm_of[b], alpha, w);
-        t.vm[b] = m;
+    for b in 0..layout.n {
+        t.va[b] = moved(p.va[b], layout.va_of[b], alpha, w);
+        t.vm[b] = moved(p.vm[b], layout.vm_of[b], alpha, w);
     }
     t
 }
 
 // A magnitude that is NaN or not above zero, or an angle that is NaN.
+#[tactic(auto, unfolding(crate::specs::Step::unfit_at))]
 fn unfit_at(m: f64, a: f64) -> bool
     ensures { result ≡ unfit_at m a }
 {
-    if real::is_nan(m) {
-        return true;
-    }
-    if m <= 0.0 {
-        return true;
-    }
-    real::is_nan(a)
+    real::is_nan(m) || m <= 0.0 || real::is_nan(a)
 }
 
 fn unfit(n: usize, p: Point) -> bool
@@ -96,41 +96,32 @@ fn unfit(n: usize, p: Point) -> bool
 {
     let mut bad = false;
     for b in 0..n {
-        bad = real::or(bad, unfit_at(p.vm[b], p.va[b]));
+        bad |= unfit_at(p.vm[b], p.va[b]);
     }
     bad
 }
 
 // ---- a point measured
 
-fn measure(
-    y_row: &[usize],
-    y_col: &[usize],
-    y_re: &[f64],
-    y_im: &[f64],
-    layout: AcPfLayout,
-    pd: &[f64],
-    qd: &[f64],
-    pg: &[f64],
-    qg: [f64; 32],
-    p: Point,
-) -> Measured
-    requires { let g : Problem = problem (triplets_of y_row.now y_col.now y_re.now y_im.now) layout pd.now qd.now pg.now qg in
-        GoodProblem g }
-    ensures { let g : Problem = problem (triplets_of y_row.now y_col.now y_re.now y_im.now) layout pd.now qd.now pg.now qg in
-        result ≡ measured_of g p }
+fn measure(g: &NewtonProblem, p: Point) -> Measured
+    requires { GoodProblem (problem_in g.now) }
+    ensures { result ≡ measured_of (problem_in g.now) p }
 {
-    let n = layout.n;
-    let dim = layout.dim;
-    let vm = p.vm;
-    let va = p.va;
-    let found = injections::ac_injections(n, y_row, y_col, y_re, y_im, vm, va);
+    let found = injections::ac_injections(g.layout.n, g.y, p);
     let phasors = found.phasors;
-    let power = found.power;
-    let p_calc = power.p;
-    let q_calc = power.q;
-    let r = layout.residual(pd, qd, pg, qg, p_calc, q_calc);
-    let residual = real::inf_norm(dim, &r);
+    let qg = g.qg;
+    let p = found.power.p;
+    let q = found.power.q;
+    let w = PowerColumns {
+        pd: g.pd,
+        qd: g.qd,
+        pg: g.pg,
+        qg,
+        p,
+        q,
+    };
+    let r = g.layout.residual(&w);
+    let residual = real::inf_norm(g.layout.dim, &r);
     Measured {
         phasors,
         r,
@@ -145,120 +136,53 @@ fn load_sides(dim: usize, r: [f64; 64], w: &mut [f64])
     requires { (dim ≤ 64) × (4160 ≤ length w.old) }
     ensures { w.new ≡ sides_to dim r w.old }
 {
-    for k in 0..dim {
-        let at = 4096 + k;
-        w[at] = r[k];
-    }
+    w[4096..4096 + dim].copy_from_slice(&r[..dim]);
 }
 
 // Solves for the step at a point. It stands in the right side's places.
-fn direction(
-    y_row: &[usize],
-    y_col: &[usize],
-    y_re: &[f64],
-    y_im: &[f64],
-    layout: AcPfLayout,
-    va: [f64; 32],
-    m: Measured,
-    w: &mut [f64],
-) -> Result<(), Singular>
-    requires { let y : Triplets = triplets_of y_row.now y_col.now y_re.now y_im.now in
-        GoodTriplets layout.n y × (layout.dim ≤ 64) × (4160 ≤ length w.old) }
-    ensures { let y : Triplets = triplets_of y_row.now y_col.now y_re.now y_im.now in
-        outcome result w.new ≡ direction_of y layout va m w.old }
+fn direction(g: &NewtonProblem, va: [f64; 32], m: Measured, w: &mut [f64]) -> Result<(), Singular>
+    requires { GoodTriplets g.now.layout.n (triplets_in g.now.y) × (g.now.layout.dim ≤ 64) × (4160 ≤ length w.old) }
+    ensures { outcome result w.new ≡ direction_of (triplets_in g.now.y) g.now.layout va m w.old }
 {
-    let n = layout.n;
-    let dim = layout.dim;
-    let phasors = m.phasors;
-    let r = m.r;
+    let dim = g.layout.dim;
     linsolve::clear(w, dim);
-    injections::ac_jacobian(n, y_row, y_col, y_re, y_im, va, phasors, layout, w);
-    load_sides(dim, r, w);
+    injections::ac_jacobian(g.layout.n, g.y, va, m.phasors, g.layout, w);
+    load_sides(dim, m.r, w);
     linsolve::solve(w, dim)
 }
 
 // ---- the length
 
 // One length: taken only if the trial is fit and its norm strictly lower.
-fn attempt(
-    y_row: &[usize],
-    y_col: &[usize],
-    y_re: &[f64],
-    y_im: &[f64],
-    layout: AcPfLayout,
-    pd: &[f64],
-    qd: &[f64],
-    pg: &[f64],
-    qg: [f64; 32],
-    p: Point,
-    m: Measured,
-    w: &[f64],
-    alpha: f64,
-) -> Trial
-    requires { let g : Problem = problem (triplets_of y_row.now y_col.now y_re.now y_im.now) layout pd.now qd.now pg.now qg in
-        GoodProblem g × (4160 ≤ length w.now) }
-    ensures { let g : Problem = problem (triplets_of y_row.now y_col.now y_re.now y_im.now) layout pd.now qd.now pg.now qg in
-        result ≡ attempt_of (measured_of g) layout p m w.now alpha }
+fn attempt(g: &NewtonProblem, p: Point, m: Measured, w: &[f64], alpha: f64) -> Option<Trial>
+    requires { GoodProblem (problem_in g.now) × (4160 ≤ length w.now) }
+    ensures { result ≡ attempt_of (measured_of (problem_in g.now)) g.now.layout p m w.now alpha }
 {
-    let n = layout.n;
-    let t = take_step(layout, p, w, alpha);
-    if unfit(n, t) {
-        return Trial {
-            taken: false,
-            point: p,
-            at: m,
-        };
+    let t = take_step(g.layout, p, w, alpha);
+    if unfit(g.layout.n, t) {
+        return None;
     }
-    let tm = measure(y_row, y_col, y_re, y_im, layout, pd, qd, pg, qg, t);
+    let tm = measure(g, t);
     if tm.residual < m.residual {
-        return Trial {
-            taken: true,
-            point: t,
-            at: tm,
-        };
+        return Some(Trial { point: t, at: tm });
     }
-    Trial {
-        taken: false,
-        point: p,
-        at: m,
-    }
+    None
 }
 
 // Twelve lengths from 1, halving.
-fn search(
-    y_row: &[usize],
-    y_col: &[usize],
-    y_re: &[f64],
-    y_im: &[f64],
-    layout: AcPfLayout,
-    pd: &[f64],
-    qd: &[f64],
-    pg: &[f64],
-    qg: [f64; 32],
-    p: Point,
-    m: Measured,
-    w: &[f64],
-) -> Trial
-    requires { let g : Problem = problem (triplets_of y_row.now y_col.now y_re.now y_im.now) layout pd.now qd.now pg.now qg in
-        GoodProblem g × (4160 ≤ length w.now) }
-    ensures { let g : Problem = problem (triplets_of y_row.now y_col.now y_re.now y_im.now) layout pd.now qd.now pg.now qg in
-        result ≡ tries_from 12 (measured_of g) layout p m w.now one }
+fn search(g: &NewtonProblem, p: Point, m: Measured, w: &[f64]) -> Option<Trial>
+    requires { GoodProblem (problem_in g.now) × (4160 ≤ length w.now) }
+    ensures { result ≡ tries_from 12 (measured_of (problem_in g.now)) g.now.layout p m w.now one }
 {
     let mut alpha = 1.0;
     for k in 0usize..12 {
-        let t = attempt(
-            y_row, y_col, y_re, y_im, layout, pd, qd, pg, qg, p, m, w, alpha,
-        );
-        if t.taken {
+        let t = attempt(g, p, m, w, alpha);
+        if t.is_some() {
             return t;
         }
-        alpha = alpha * 0.5;
+        alpha *= 0.5;
     }
-    Trial {
-        taken: false,
-        point: p,
-        at: m,
-    }
+    None
 }
 
 // ---- the steps
@@ -273,70 +197,41 @@ fn last_ending(residual: f64) -> Ending
     }
 }
 
+impl Ended {
+    // The end at a point, with what was worked out there.
+    fn at(point: Point, iterations: usize, m: Measured, ending: Ending) -> Ended
+        ensures { result ≡ ended point iterations m ending }
+    {
+        let phasors = m.phasors;
+        Ended {
+            point,
+            phasors,
+            iterations,
+            residual: m.residual,
+            ending,
+        }
+    }
+}
+
 // At most 50 steps. What the accepted trial has worked out is carried on.
-pub fn newton(
-    y_row: &[usize],
-    y_col: &[usize],
-    y_re: &[f64],
-    y_im: &[f64],
-    layout: AcPfLayout,
-    pd: &[f64],
-    qd: &[f64],
-    pg: &[f64],
-    qg: [f64; 32],
-    start: Point,
-    w: &mut [f64],
-) -> Ended
-    requires { let g : Problem = problem (triplets_of y_row.now y_col.now y_re.now y_im.now) layout pd.now qd.now pg.now qg in
-        GoodProblem g × (4160 ≤ length w.old) }
-    ensures { let g : Problem = problem (triplets_of y_row.now y_col.now y_re.now y_im.now) layout pd.now qd.now pg.now qg in
-        run result w.new ≡ newton_of g start w.old }
+pub fn newton(g: &NewtonProblem, start: Point, w: &mut [f64]) -> Ended
+    requires { GoodProblem (problem_in g.now) × (4160 ≤ length w.old) }
+    ensures { run result w.new ≡ newton_of (problem_in g.now) start w.old }
 {
     let mut p = start;
-    let mut m = measure(y_row, y_col, y_re, y_im, layout, pd, qd, pg, qg, p);
+    let mut m = measure(g, p);
     for it in 0..50 {
         if m.residual < TOL {
-            let phasors = m.phasors;
-            return Ended {
-                point: p,
-                phasors,
-                iterations: it,
-                residual: m.residual,
-                ending: Ending::Converged,
-            };
+            return Ended::at(p, it, m, Ending::Converged);
         }
-        let va = p.va;
-        let found = direction(y_row, y_col, y_re, y_im, layout, va, m, w);
-        if let Err(singular) = found {
-            let phasors = m.phasors;
-            return Ended {
-                point: p,
-                phasors,
-                iterations: it,
-                residual: m.residual,
-                ending: Ending::Singular(singular.column),
-            };
+        if let Err(singular) = direction(g, p.va, m, w) {
+            return Ended::at(p, it, m, Ending::Singular(singular.column));
         }
-        let t = search(y_row, y_col, y_re, y_im, layout, pd, qd, pg, qg, p, m, w);
-        if !t.taken {
-            let phasors = m.phasors;
-            return Ended {
-                point: p,
-                phasors,
-                iterations: it,
-                residual: m.residual,
-                ending: Ending::Stuck,
-            };
-        }
+        let Some(t) = search(g, p, m, w) else {
+            return Ended::at(p, it, m, Ending::Stuck);
+        };
         p = t.point;
         m = t.at;
     }
-    let phasors = m.phasors;
-    Ended {
-        point: p,
-        phasors,
-        iterations: 49,
-        residual: m.residual,
-        ending: last_ending(m.residual),
-    }
+    Ended::at(p, 49, m, last_ending(m.residual))
 }

@@ -15,7 +15,7 @@ use Rattle.network.specs.Network.{Network, buses_of, slacks_of, generators_of, b
 use Rattle.network.specs.Checks.{counted, WellIndexed}
 use Rattle.network.specs.Missing.{in_column, in_ends, missing_in}
 use Rattle.network.specs.Checks.Laws.{well-indexed}
-use Rattle.network.specs.declared.MissingBus.TheVariants.{Nowhere}
+use Rattle.std.specs.Prelude.{None}
 use Rattle.starts.specs.declared.AcStart.TheVariants.{Flat}
 use Rattle.pf_ac.specs.WithStart.Withheld.{Alike}
 
@@ -33,7 +33,7 @@ sample-counted : (x : Float) → counted (sample x) ≡ true
 unfolding counted both
 sample-counted x = refl
 
-none_missing : (x : Float) → missing_in (sample x) ≡ Nowhere
+none_missing : (x : Float) → missing_in (sample x) ≡ None
 unfolding missing_in in_column in_ends first_below
 none_missing x = refl
 

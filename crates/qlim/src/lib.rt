@@ -3,50 +3,35 @@
 #![tactic(auto)]
 
 ghost use Rattle.std.specs.Prelude.{◌≡◌, ◌≤◌, length};
-ghost use Rattle.network.specs.Network.{triplets_of};
-ghost use Rattle.injections.specs.Injections.{injected_of};
-ghost use Rattle.moves.specs.Moves.{moves_of};
-ghost use Rattle.qlim.specs.Rounds.{Study, study, GoodStudy, nothing, settle_of, done, qlim_of};
+ghost use Rattle.newton.specs.Newton.{run, newton_of};
+ghost use Rattle.qlim.specs.Rounds.{study_in, GoodStudy, settle_of, problem_for, moves_at, moves_after, done, qlim_of};
 
-use injections::{Column, Phasors};
 use layout::{AcPfLayout, BusKind, Limits, Point};
-use moves::{KindAt, Move, Track};
-use newton::{Ended, Ending};
+use moves::{Move, Track};
+use network::TripletColumns;
+use newton::{Ended, NewtonProblem};
 use real::TOL;
+
+// What stays the same through the rounds: the triplets, demands, scheduled generation, the limits and the held voltages of the n buses.
+#[derive(Clone, Copy)]
+pub struct QlimStudy<'a> {
+    pub n: usize,
+    pub y: TripletColumns<'a>,
+    pub pd: &'a [f64],
+    pub qd: &'a [f64],
+    pub pg: &'a [f64],
+    pub qg: [f64; 32],
+    pub limits: Limits,
+    pub hold: [f64; 32],
+}
 
 // The last round: Newton's end, the kinds and the schedule that it ran under. The residual is that of the end, or infinity where no kinds settled.
 #[derive(Clone, Copy)]
 pub struct Settled {
     pub ended: Ended,
-    pub kinds: [KindAt; 32],
+    pub kinds: [BusKind; 32],
     pub schedule: [f64; 32],
     pub residual: f64,
-}
-
-// No rounds: what a search keeps before its first start.
-pub fn nothing(p: Point) -> Settled
-    ensures { result ≡ nothing p }
-{
-    let zero = Column {
-        re: [0.0; 32],
-        im: [0.0; 32],
-    };
-    let phasors = Phasors { v: zero, i: zero };
-    let ended = Ended {
-        point: p,
-        phasors,
-        iterations: 0,
-        residual: 1.0 / 0.0,
-        ending: Ending::Spent,
-    };
-    Settled {
-        ended,
-        kinds: [KindAt {
-            kind: BusKind::Slack,
-        }; 32],
-        schedule: [0.0; 32],
-        residual: 1.0 / 0.0,
-    }
 }
 
 // Newton's end under these kinds and schedules, with a residual.
@@ -62,82 +47,86 @@ fn settle(n: usize, kinds: [BusKind; 32], qsched: [f64; 32], e: Ended, residual:
     }
 }
 
-// The moves at Newton's end: all buses are tested against the one set of figures there.
-fn moves_at_end(
-    n: usize,
-    kinds: [BusKind; 32],
-    limits: Limits,
-    t: Track,
-    qd: &[f64],
-    e: Ended,
-    vm_hold: [f64; 32],
-) -> [Move; 32]
-    requires { (n ≤ 32) × (n ≤ length qd.now) }
-    ensures { result ≡ moves_of n kinds limits t qd.now (injected_of n e.phasors).q e.point.vm vm_hold }
+// ---- a round
+
+// Newton's steps under these kinds and schedules.
+fn steps(s: &QlimStudy, kinds: [BusKind; 32], t: Track, p: Point, w: &mut [f64]) -> Ended
+    requires { GoodStudy (study_in s.now) × (4160 ≤ length w.old) }
+    ensures { run result w.new ≡ newton_of (problem_for (study_in s.now) kinds t) p w.old }
 {
-    // Only a bus with a generator moves; without one no power is asked for.
-    let has_gen = limits.has_gen;
-    if !moves::any_generator(n, has_gen) {
-        let still = [Move::Keep; 32];
-        return still;
-    }
-    let p = e.point;
-    let vm = p.vm;
-    let phasors = e.phasors;
-    let power = injections::bus_powers(n, phasors);
-    let q_calc = power.q;
-    moves::moves(n, kinds, limits, t, qd, q_calc, vm, vm_hold)
+    let layout = AcPfLayout::with_kinds(s.n, kinds);
+    let qg = t.qsched;
+    let g = NewtonProblem {
+        y: s.y,
+        layout,
+        pd: s.pd,
+        qd: s.qd,
+        pg: s.pg,
+        qg,
+    };
+    newton::newton(&g, p, w)
 }
 
+// The moves at their end: all buses are tested against the one set of figures there.
+fn moves_at_end(s: &QlimStudy, kinds: [BusKind; 32], t: Track, e: Ended) -> [Move; 32]
+    requires { GoodStudy (study_in s.now) }
+    ensures { result ≡ moves_at (study_in s.now) kinds t e }
+{
+    // Only a bus with a generator moves; without one no power is asked for.
+    if !moves::any_generator(s.n, s.limits.has_gen) {
+        return [Move::Keep; 32];
+    }
+    let power = injections::bus_powers(s.n, e.phasors);
+    moves::moves(s.n, kinds, s.limits, t, s.qd, power.q, e.point.vm, s.hold)
+}
+
+// Those moves, unless they end the rounds: a residual does that is not small enough, and a round after which no bus moves.
+#[tactic(auto, unfolding(crate::specs::Rounds::moves_after))]
+fn moves_after(s: &QlimStudy, kinds: [BusKind; 32], t: Track, e: Ended) -> Option<[Move; 32]>
+    requires { GoodStudy (study_in s.now) }
+    ensures { result ≡ moves_after (study_in s.now) kinds t e }
+{
+    if e.residual >= TOL {
+        return None;
+    }
+    let ms = moves_at_end(s, kinds, t, e);
+    if moves::any_move(s.n, ms) {
+        Some(ms)
+    } else {
+        None
+    }
+}
+
+// ---- all rounds
+
 // The kinds that come in are those of default_kinds. A bus that moves even after the twelfth round means that no kinds settled: infinity.
-pub fn solve_qlim(
-    n: usize,
-    default: [BusKind; 32],
-    y_row: &[usize],
-    y_col: &[usize],
-    y_re: &[f64],
-    y_im: &[f64],
-    pd: &[f64],
-    qd: &[f64],
-    pg: &[f64],
-    qg: [f64; 32],
-    limits: Limits,
-    vm_hold: [f64; 32],
-    start: Point,
-    w: &mut [f64],
-) -> Settled
-    requires { let s : Study = study n (triplets_of y_row.now y_col.now y_re.now y_im.now) pd.now qd.now pg.now qg limits vm_hold in
-        GoodStudy s × (4160 ≤ length w.old) }
-    ensures { let s : Study = study n (triplets_of y_row.now y_col.now y_re.now y_im.now) pd.now qd.now pg.now qg limits vm_hold in
-        done result w.new ≡ qlim_of s default start w.old }
+pub fn solve_qlim(s: &QlimStudy, default: [BusKind; 32], start: Point, w: &mut [f64]) -> Settled
+    requires { GoodStudy (study_in s.now) × (4160 ≤ length w.old) }
+    ensures { done result w.new ≡ qlim_of (study_in s.now) default start w.old }
 {
     let mut kinds = default;
     let mut t = Track {
-        qsched: qg,
-        converted: [0u8; 32],
+        qsched: s.qg,
+        converted: [None; 32],
         reverted: [false; 32],
     };
-    let mut p = moves::pin(n, default, vm_hold, start);
-    let mut round = 0usize;
-    loop {
-        let layout = AcPfLayout::with_kinds(n, kinds);
-        let qsched = t.qsched;
-        let e = newton::newton(y_row, y_col, y_re, y_im, layout, pd, qd, pg, qsched, p, w);
-        if e.residual >= TOL {
-            return settle(n, kinds, qsched, e, e.residual);
-        }
-        let ms = moves_at_end(n, kinds, limits, t, qd, e, vm_hold);
-        if !moves::any_move(n, ms) {
-            return settle(n, kinds, qsched, e, e.residual);
-        }
-        if round == 11 {
-            return settle(n, kinds, qsched, e, 1.0 / 0.0);
-        }
-        let point = e.point;
-        let next = moves::kinds_after(n, kinds, ms);
+    let mut p = moves::pin(s.n, default, s.hold, start);
+    for round in 0usize..11 {
+        let e = steps(s, kinds, t, p, w);
+        let Some(ms) = moves_after(s, kinds, t, e) else {
+            return settle(s.n, kinds, t.qsched, e, e.residual);
+        };
+        let next = moves::kinds_after(s.n, kinds, ms);
         kinds = next;
-        t = moves::track_after(n, t, limits, qg, ms);
-        p = moves::pin(n, next, vm_hold, point);
-        round = round + 1;
+        t = moves::track_after(s.n, t, s.limits, s.qg, ms);
+        p = moves::pin(s.n, next, s.hold, e.point);
     }
+    let e = steps(s, kinds, t, p, w);
+    let moved = moves_after(s, kinds, t, e);
+    let residual = if moved.is_some() {
+        1.0 / 0.0
+    } else {
+        e.residual
+    };
+    settle(s.n, kinds, t.qsched, e, residual)
 }

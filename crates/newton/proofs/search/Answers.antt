@@ -1,21 +1,20 @@
 -- `newton::search` meets its contract: what is left gives what all twelve give. Assumes nothing.
-use mathlib.Core.Path.{◌≡◌, sym, ◌∙◌}
-use native.Mathlib.Omega.{arith}
-use borrow.Author.Rules.{rules}
+use Rattle.std.specs.Prelude.{◌≡◌}
+use Rattle.std.proofs.Common.{sym, ◌∙◌, arith, rules}
 use Rattle.newton.specs.Newton.Laws.{fuel, tries-hit, tries-miss, tries-none}
 use Rattle.newton.proofs.search.Goals as goal
 
 pub loop-k-init : goal.loop-k-init
 loop-k-init c = search rules
 
-pub returns-then-t : goal.returns-then-t
-returns-then-t c =
-    sym (tries-hit _ _ _ _ _ _ _ _ c.attempt-t.ensures c.if-t.true) ∙ (rw (fuel 12 _ c.loop-k-test.true) at c.loop-k.invariant.1)
+pub returns-then-is_some : goal.returns-then-is_some
+returns-then-is_some c =
+    sym (tries-hit _ _ _ _ _ _ _ _ c.attempt-t.ensures (sym c.is_some.ensures ∙ c.if-is_some.true)) ∙ (rw (fuel 12 _ c.loop-k-test.true) at c.loop-k.invariant.1)
 
 pub loop-k-preserved : goal.loop-k-preserved
 loop-k-preserved c = (
   omega arith,
-  sym (tries-miss _ _ _ _ _ _ _ _ c.attempt-t.ensures c.if-t.false) ∙ (rw (fuel 12 _ c.loop-k-test.true) at c.loop-k.invariant.1),
+  sym (tries-miss _ _ _ _ _ _ _ _ c.attempt-t.ensures (sym c.is_some.ensures ∙ c.if-is_some.false)) ∙ (rw (fuel 12 _ c.loop-k-test.true) at c.loop-k.invariant.1),
 )
 
 pub returns : goal.returns

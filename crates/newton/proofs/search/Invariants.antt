@@ -2,14 +2,13 @@
 use Prim.Native.Nat.{◌-◌, ◌≤◌}
 use mathlib.Core.Path.{◌≡◌}
 use Rattle.real.specs.Literals.{one}
-use Rattle.network.specs.Network.{triplets_of}
-use Rattle.newton.specs.Newton.{problem, measured_of, tries_from}
+use Rattle.newton.specs.Newton.{problem_in, measured_of, tries_from}
 use Rattle.newton.proofs.search.Given as goal
 
 abbrev pub invariant-loop-k : goal.invariant-loop-k
 invariant-loop-k l = (l.k ≤ 12)
-    × (tries_from (12 - l.k) (measured_of (problem (triplets_of l.y_row l.y_col l.y_re l.y_im) l.layout l.pd l.qd l.pg l.qg)) l.layout l.p l.m l.w l.alpha
-    ≡ tries_from 12 (measured_of (problem (triplets_of l.y_row l.y_col l.y_re l.y_im) l.layout l.pd l.qd l.pg l.qg)) l.layout l.p l.m l.w one)
+    × (tries_from (12 - l.k) (measured_of (problem_in l.g)) l.g.layout l.p l.m l.w l.alpha
+    ≡ tries_from 12 (measured_of (problem_in l.g)) l.g.layout l.p l.m l.w one)
 
 abbrev pub decreases-loop-k : goal.decreases-loop-k
 decreases-loop-k l = 12 - l.k

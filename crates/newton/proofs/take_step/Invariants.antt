@@ -6,7 +6,7 @@ use Rattle.newton.specs.Step.{step_to}
 use Rattle.newton.proofs.take_step.Given as goal
 
 abbrev pub invariant-loop-b : goal.invariant-loop-b
-invariant-loop-b l = (l.n ≡ l.layout.n) × (l.b ≤ l.n) × (l.t ≡ step_to l.b (va_col l.layout) (vm_col l.layout) l.p l.w l.alpha)
+invariant-loop-b l = (l.b ≤ l.layout.n) × (l.t ≡ step_to l.b (va_col l.layout) (vm_col l.layout) l.p l.w l.alpha)
 
 abbrev pub decreases-loop-b : goal.decreases-loop-b
-decreases-loop-b l = l.n - l.b
+decreases-loop-b l = l.layout.n - l.b

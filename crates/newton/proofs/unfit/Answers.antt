@@ -8,10 +8,9 @@ use Rattle.newton.proofs.unfit.Goals as goal
 
 pub loop-b-preserved : goal.loop-b-preserved
 unfolding any_below
-loop-b-preserved c = record { within = omega arith; so_far = rw (add-one, ← c.loop-b.invariant.so_far, ← c.unfit_at.ensures) c.or-bad.ensures }
+loop-b-preserved c = record { within = omega arith; so_far = rw (add-one, ← c.loop-b.invariant.so_far, c.unfit_at-bad.ensures) }
 
 pub returns : goal.returns
-unfolding any_below
 returns c = counted-all c.loop-b.invariant (omega arith)
 
 pub loop-b-init : goal.loop-b-init

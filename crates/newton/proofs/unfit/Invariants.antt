@@ -1,11 +1,7 @@
 -- `newton::unfit` meets its contract: whether any bus passed is unfit. Assumes nothing.
-use Prim.Native.Nat.{◌-◌}
 use Rattle.layout.specs.Table.Laws.{Counted}
 use Rattle.newton.specs.Step.{unfit_to}
 use Rattle.newton.proofs.unfit.Given as goal
 
 abbrev pub invariant-loop-b : goal.invariant-loop-b
 invariant-loop-b l = Counted (λ i. unfit_to i l.p) l.n l.b l.bad
-
-abbrev pub decreases-loop-b : goal.decreases-loop-b
-decreases-loop-b l = l.n - l.b

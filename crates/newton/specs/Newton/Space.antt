@@ -1,6 +1,6 @@
 -- What stood in a lent workspace cannot show: Newton's steps clear it before they read it. Assumes nothing.
 use Prim.Native.Nat.{ℕ, zero, suc, ◌+◌, ◌≤◌, ◌<◌}
-use Rattle.std.specs.Prelude.{Bool, List, ◌≡◌, get_or, Float, Ok, Err}
+use Rattle.std.specs.Prelude.{Bool, List, ◌≡◌, get_or, Float, Option, None, Some, Ok, Err}
 use Rattle.std.proofs.Math.Bool.{true, false, cond}
 use Rattle.std.proofs.Math.Path.{refl}
 use Rattle.std.proofs.Common.{ltb-true}
@@ -25,7 +25,7 @@ use Rattle.newton.specs.declared.Trial.{Trial}
 use Rattle.newton.specs.declared.Ended.{Ended}
 use Rattle.newton.specs.declared.Ending.TheVariants.{Singular, Stuck}
 use Rattle.newton.specs.Step.{moved_by, step_of}
-use Rattle.newton.specs.Newton.{Problem, measured_of, direction_of, attempt_of, tries_from, Run, run, ended, by_solution, steps_from, newton_of}
+use Rattle.newton.specs.Newton.{Problem, measured_of, direction_of, attempt_of, tries_from, Run, run, ended, by_solution, by_trial, steps_from, newton_of}
 
 -- what holds of two pairs holds of the pair that a test picks
 pub either : {A : Type 0} (P : A → A → Type 0) (b : Bool) {x y z u : A} → P x y → P z u → P (cond b x z) (cond b y u)
@@ -98,17 +98,20 @@ module _ (l : AcPfLayout) (i : Inside l) where
     where
       goes : Outcome → Run
       goes o =
-          let t = tries_from 12 at l p m (space_of o) one in
           by_solution (answer_of o) (λ c. run (ended p it m (Singular c)) (space_of o))
-          (cond t.taken (steps_from k (it + 1) at y l t.point t.at (space_of o)) (run (ended p it m Stuck) (space_of o)))
+          (by_trial (tries_from 12 at l p m (space_of o) one) (λ t. steps_from k (it + 1) at y l t.point t.at (space_of o)) (run (ended p it m Stuck) (space_of o)))
 
       go : {o q : Outcome} → AlikeOutcomes l.dim o q
           → ((t : Trial) (x z : List Float) → Lent x z → AlikeRuns (steps_from k (it + 1) at y l t.point t.at x) (steps_from k (it + 1) at y l t.point t.at z))
           → AlikeRuns (goes o) (goes q)
       go (alike_outcomes {s = Err e} b) rest = alike_runs b.lent
-      go (alike_outcomes {s = Ok y} {w = x} {v = z} b) rest =
-          let t = tries_from 12 at l p m z one in
-          rw (tries-alike b 12 at p m one) (either AlikeRuns t.taken (rest t x z b.lent) (alike_runs b.lent))
+      go (alike_outcomes {s = Ok u} {w = x} {v = z} b) rest =
+          rw (tries-alike b 12 at p m one) (ends (tries_from 12 at l p m z one))
+        where
+          ends : (t : Option Trial)
+              → AlikeRuns (by_trial t (λ t. steps_from k (it + 1) at y l t.point t.at x) (run (ended p it m Stuck) x)) (by_trial t (λ t. steps_from k (it + 1) at y l t.point t.at z) (run (ended p it m Stuck) z))
+          ends (Some t) = rest t x z b.lent
+          ends None = alike_runs b.lent
 
 -- Newton's end does not depend on what stood in the workspace
 pub newton-space : (g : Problem) → Inside g.layout → (p : Point) {w v : List Float} → Lent w v → AlikeRuns (newton_of g p w) (newton_of g p v)

@@ -2,15 +2,13 @@
 use Prim.Native.Nat.{◌-◌, ◌≤◌}
 use mathlib.Core.Path.{◌≡◌}
 use lib.ListN.{length}
-use Rattle.network.specs.Network.{triplets_of}
-use Rattle.qlim.specs.Rounds.{study}
+use Rattle.qlim.specs.Rounds.{study_in}
 use Rattle.pf_ac.specs.Search.{search_from, search_of}
 use Rattle.pf_ac.proofs.search.Given as goal
 
 abbrev pub invariant-loop-i : goal.invariant-loop-i
-invariant-loop-i l = (l.i ≤ l.count) × (length l.w ≡ length l.initial.w)
-    × (search_from (l.count - l.i) l.i l.start (study l.n (triplets_of l.y_row l.y_col l.y_re l.y_im) l.pd l.qd l.pg l.qg l.limits l.vm_hold) l.kinds l.first l.flat l.best l.w
-    ≡ search_of l.start (study l.n (triplets_of l.y_row l.y_col l.y_re l.y_im) l.pd l.qd l.pg l.qg l.limits l.vm_hold) l.kinds l.first l.flat l.initial.w)
+invariant-loop-i l = (1 ≤ l.i) × (length l.w ≡ length l.initial.w)
+    × (search_from (l.count - l.i) l.i l.start (study_in l.s) l.kinds l.first l.flat l.best l.w ≡ search_of l.start (study_in l.s) l.kinds l.first l.flat l.fn.w)
 
 abbrev pub decreases-loop-i : goal.decreases-loop-i
 decreases-loop-i l = l.count - l.i

@@ -10,7 +10,7 @@ use Rattle.newton.specs.Newton.Space.{either, Lent, AlikeRuns, alike_runs, layou
 use Rattle.moves.specs.declared.Track.{Track}
 use Rattle.moves.specs.Moves.{any_move, pinned}
 use Rattle.qlim.specs.declared.Settled.{Settled}
-use Rattle.qlim.specs.Rounds.{Study, Done, done, problem_in, moves_in, round_of, last_round, earlier_round, rounds_from, fresh, qlim_of}
+use Rattle.qlim.specs.Rounds.{Study, Done, done, problem_for, moves_in, round_of, last_round, earlier_round, rounds_from, fresh, qlim_of}
 
 -- one result, and workspaces of one length
 pub data AlikeDone : Done → Done → Type 0 where
@@ -34,9 +34,9 @@ module _ (s : Study) where
   module _ (few : s.n ≤ 32) where
     rounds-alike : (k : ℕ) (kinds : List BusKind) (t : Track) (p : Point) (w v : List Float) → Lent w v → AlikeDone (rounds_from k s kinds t p w) (rounds_from k s kinds t p v)
     unfolding rounds_from
-    rounds-alike zero kinds t p w v a = last-alike kinds t (newton-space (problem_in s kinds t) (layout-inside s.n kinds few) p a)
+    rounds-alike zero kinds t p w v a = last-alike kinds t (newton-space (problem_for s kinds t) (layout-inside s.n kinds few) p a)
     rounds-alike (suc k) kinds t p w v a =
-        earlier-alike kinds t (newton-space (problem_in s kinds t) (layout-inside s.n kinds few) p a) (rounds_from k s) (rounds-alike k)
+        earlier-alike kinds t (newton-space (problem_for s kinds t) (layout-inside s.n kinds few) p a) (rounds_from k s) (rounds-alike k)
 
     pub rounds-space : (kinds : List BusKind) (p : Point) {w v : List Float} → Lent w v → AlikeDone (qlim_of s kinds p w) (qlim_of s kinds p v)
     unfolding qlim_of

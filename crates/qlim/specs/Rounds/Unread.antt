@@ -1,6 +1,6 @@
 -- Demand 3 at this level: what the rounds give does not change with withheld figures. Assumes nothing.
 use Prim.Native.Nat.{ℕ, ◌≤◌, ◌<◌}
-use Rattle.std.specs.Prelude.{Bool, cond, ◌⊎◌, ◌≡◌, length, get_or, Float}
+use Rattle.std.specs.Prelude.{Bool, cond, ◌⊎◌, ◌≡◌, length, get_or, Float, Option, None}
 use mathlib.Core.List.{List}
 use Rattle.std.proofs.Common.{inl, inr, ◌∙◌, arith}
 use Rattle.std.proofs.Math.Path.{refl, ap}
@@ -20,6 +20,7 @@ use Rattle.layout.proofs.Unread.{residual-unread}
 use Rattle.injections.specs.Injections.{injections_of}
 use Rattle.newton.specs.Newton.{Problem, problem, measured_of, newton_of, Run, ended_of, space_after}
 use Rattle.newton.specs.Newton.Laws.{newton-same}
+use Rattle.moves.specs.declared.Limit.{Limit}
 use Rattle.moves.specs.declared.Move.{Move}
 use Rattle.moves.specs.declared.Move.TheVariants.{Keep}
 use Rattle.moves.specs.declared.Track.{Track}
@@ -49,28 +50,28 @@ abbrev pub with : Study → Study → Study
 with s u =
     study s.n s.y u.pd u.qd u.pg u.qg (record { qmin = u.limits.qmin; qmax = u.limits.qmax; has_gen = s.limits.has_gen }) s.hold
 
-abbrev pub track : List Float → List ℕ → List Bool → Track
+abbrev pub track : List Float → List (Option Limit) → List Bool → Track
 track x c r = record { qsched = x; converted = c; reverted = r }
 
 module _ (d : List BusKind) (s u : Study) (few : s.n ≤ 32) (a : AlikeStudies d s u) where
   -- each bus as it stands in some round
-  pub record Stand (kinds : List BusKind) (c : List ℕ) (x y : List Float) : Type 0 where
+  pub record Stand (kinds : List BusKind) (c : List (Option Limit)) (x y : List Float) : Type 0 where
     kinds_room : s.n ≤ length kinds
     converted_room : s.n ≤ length c
     x_room : s.n ≤ length x
     y_room : s.n ≤ length y
-    at : (b : ℕ) → b < s.n → Standing (kind_of d b) (kind_of kinds b) (get_or c b 0) (get_or x b nan) (get_or y b nan)
+    at : (b : ℕ) → b < s.n → Standing (kind_of d b) (kind_of kinds b) (get_or c b None) (get_or x b nan) (get_or y b nan)
 
   -- ---- Newton's steps
 
-  module _ (kinds : List BusKind) (c : List ℕ) (x y : List Float) (i : Stand kinds c x y) where
-    active : {e k : BusKind} {z : ℕ} {v w : Float} {A B : Type 0} → Standing e k z v w → NoActive e ⊎ A → NoActive e ⊎ B → NoActive k ⊎ (A × B)
+  module _ (kinds : List BusKind) (c : List (Option Limit)) (x y : List Float) (i : Stand kinds c x y) where
+    active : {e k : BusKind} {z : Option Limit} {v w : Float} {A B : Type 0} → Standing e k z v w → NoActive e ⊎ A → NoActive e ⊎ B → NoActive k ⊎ (A × B)
     active slack p q = inl refl
     active held p q = inr (active-v p, active-v q)
     active (converted f) p q = inr (active-v p, active-v q)
     active (loaded f) p q = inr (active-q p, active-q q)
 
-    reactive : {e k : BusKind} {z : ℕ} {v w : Float} {A : Type 0} → Standing e k z v w → NoActive e ⊎ A → NoReactive k ⊎ ((v ≡ w) × A)
+    reactive : {e k : BusKind} {z : Option Limit} {v w : Float} {A : Type 0} → Standing e k z v w → NoActive e ⊎ A → NoReactive k ⊎ ((v ≡ w) × A)
     reactive slack p = inl (inl refl)
     reactive held p = inl (inr refl)
     reactive (converted f) p = inr (f, active-v p)
@@ -132,7 +133,7 @@ module _ (d : List BusKind) (s u : Study) (few : s.n ≤ 32) (a : AlikeStudies d
 
       bus-on : (b : ℕ) → b < s.n
           → After (get_or s.limits.qmin b nan) (get_or u.limits.qmin b nan) (get_or s.limits.qmax b nan) (get_or u.limits.qmax b nan) (get_or s.qg b nan) (get_or u.qg b nan)
-          (kind_of d b) (kind_of kinds b) (get_or c b 0) (get_or x b nan) (get_or y b nan) (get_or moves b Keep)
+          (kind_of d b) (kind_of kinds b) (get_or c b None) (get_or x b nan) (get_or y b nan) (get_or moves b Keep)
       unfolding moves_of
       bus-on b h =
           rw (table_at s.n Keep (move_at kinds s.limits (track x c r) s.qd q vm s.hold) b Keep h few) (standing_on _ _ _ _ _ _ _ _ _ _ _ (i.at b h) (a.same_limits b h))
@@ -146,7 +147,7 @@ module _ (d : List BusKind) (s u : Study) (few : s.n ≤ 32) (a : AlikeStudies d
             x_room = rw stores-length i.x_room;
             y_room = rw stores-length i.y_room;
             at =
-                λ b h. rw (stores_at _ s.n kinds b Slack h i.kinds_room, stores_at _ s.n c b 0 h i.converted_room, stores_at _ s.n x b nan h i.x_room, stores_at _ s.n y b nan h i.y_room) (bus-on b h);
+                λ b h. rw (stores_at _ s.n kinds b Slack h i.kinds_room, stores_at _ s.n c b None h i.converted_room, stores_at _ s.n x b nan h i.x_room, stores_at _ s.n y b nan h i.y_room) (bus-on b h);
           }
 
   -- ---- the rounds
@@ -157,9 +158,9 @@ module _ (d : List BusKind) (s u : Study) (few : s.n ≤ 32) (a : AlikeStudies d
   -- whatever goes on from tables that stand goes on alike
   abbrev pub Alike : Rest → Rest → Type 0
   Alike f g =
-      (kinds : List BusKind) (c : List ℕ) (r : List Bool) (x y : List Float) → Stand kinds c x y → (p : Point) (w : List Float) → f kinds (track x c r) p w ≡ g kinds (track y c r) p w
+      (kinds : List BusKind) (c : List (Option Limit)) (r : List Bool) (x y : List Float) → Stand kinds c x y → (p : Point) (w : List Float) → f kinds (track x c r) p w ≡ g kinds (track y c r) p w
 
-  module _ (kinds : List BusKind) (c : List ℕ) (r : List Bool) (x y : List Float) (i : Stand kinds c x y) (e : Run) where
+  module _ (kinds : List BusKind) (c : List (Option Limit)) (r : List Bool) (x y : List Float) (i : Stand kinds c x y) (e : Run) where
     abbrev at_end : Point
     at_end = (ended_of e).point
 
@@ -168,7 +169,7 @@ module _ (d : List BusKind) (s u : Study) (few : s.n ≤ 32) (a : AlikeStudies d
     unfolding schedule_of
     schedule-alike = stores-ext _ _ s.n _ (λ b h. go (i.at b h))
       where
-        go : {d k : BusKind} {c : ℕ} {v z : Float} → Standing d k c v z → sched_at k v ≡ sched_at k z
+        go : {d k : BusKind} {c : Option Limit} {v z : Float} → Standing d k c v z → sched_at k v ≡ sched_at k z
         go slack = refl
         go held = refl
         go (converted f) = f
@@ -219,10 +220,10 @@ module _ (d : List BusKind) (s u : Study) (few : s.n ≤ 32) (a : AlikeStudies d
         converted_room = rw length-replicate few;
         x_room = a.qg_fit;
         y_room = a.qg_fits;
-        at = λ b h. rw (get_or-replicate {A = ℕ} 32 b 0 0 (omega arith)) (go (kind_of d b) (a.same_qg b h));
+        at = λ b h. rw (get_or-replicate {A = Option Limit} 32 b None None (omega arith)) (go (kind_of d b) (a.same_qg b h));
       }
     where
-      go : (k : BusKind) {v w : Float} → NoReactive k ⊎ (v ≡ w) → Standing k k 0 v w
+      go : (k : BusKind) {v w : Float} → NoReactive k ⊎ (v ≡ w) → Standing k k None v w
       go Slack e = slack
       go Pv e = held
       go Pq e = loaded (reactive-q e)
