@@ -7,12 +7,13 @@ ghost use Rattle.vectors.specs.Words.{pair_of, Tells, Found};
 ghost use Rattle.network.specs.Network.{buses_of, slacks_of, generators_of, branches_of, triplets_of, first_buses, first_slacks, first_generators, first_branches, first_triplets};
 ghost use Rattle.network.specs.BranchTable.{values_of, branch_table_of, first_values};
 ghost use Rattle.trailer.specs.Trailer.{flat_letter, mode_of};
-ghost use Rattle.real.specs.Paper.{given};
-ghost use Rattle.case_text.specs.Answer.{paper_of};
+ghost use Rattle.real.specs.Paper.{given, place_in};
+ghost use Rattle.case_text.specs.Answer.{refusal_number, refusal_values, paper_of};
 ghost use Rattle.reader.specs.Reader.{columns_of, read_of};
-ghost use Rattle.text_vectors.specs.Told.{number_in, place_of, refusal, rows_in, branch_rows, triplet_rows, rows_told, edition_by, paper_told, width_told, word_told, numbers_told, reals_told};
+ghost use Rattle.text_vectors.specs.Told.{refusal, rows_in, branch_rows, triplet_rows, rows_told, edition_by, paper_told, width_told, word_told, numbers_told, reals_told};
 ghost use Rattle.text_vectors.specs.Told.{buses_told, slacks_told, generators_told, branches_told, triplets_told, values_told, network_marks, Agrees, table_in, RestAgrees};
 
+use case_text::{Contents, Refusal};
 use starts::AcStart;
 use trailer::Edition;
 use vectors::STDIN_FILENO;
@@ -88,35 +89,33 @@ fn reals(s: &[u8; 600000], j: usize, col: [f64; 258]) -> bool
     true
 }
 
-// The refusal's number, and 0 of a good answer.
-fn number(r: case_text::Reading) -> usize
-    ensures { result ≡ number_in (paper_of r) }
+// The refusal's number.
+fn number(r: Refusal) -> usize
+    ensures { result ≡ refusal_number r }
 {
     match r {
-        case_text::Reading::Good(_) => 0,
-        case_text::Reading::Length(_) => 1,
-        case_text::Reading::Trailer(_) => 2,
-        case_text::Reading::Byte(_) => 3,
-        case_text::Reading::Rows(_) => 6,
-        case_text::Reading::Form(_) => 4,
-        case_text::Reading::Field(_) => 5,
-        case_text::Reading::Room => 9,
+        Refusal::Length(_) => 1,
+        Refusal::Trailer(_) => 2,
+        Refusal::Byte(_) => 3,
+        Refusal::Rows(_) => 6,
+        Refusal::Form(_) => 4,
+        Refusal::Field(_) => 5,
+        Refusal::Room => 9,
     }
 }
 
 // The refusal's place, and 0 where it has none.
-fn place(r: case_text::Reading) -> usize
-    ensures { result ≡ place_of (paper_of r) }
+fn place(r: Refusal) -> usize
+    ensures { result ≡ place_in (refusal_values r) }
 {
     match r {
-        case_text::Reading::Good(_) => 0,
-        case_text::Reading::Length(at) => at,
-        case_text::Reading::Trailer(at) => at,
-        case_text::Reading::Byte(at) => at,
-        case_text::Reading::Rows(at) => at,
-        case_text::Reading::Form(at) => at,
-        case_text::Reading::Field(at) => at,
-        case_text::Reading::Room => 0,
+        Refusal::Length(at)
+        | Refusal::Trailer(at)
+        | Refusal::Byte(at)
+        | Refusal::Rows(at)
+        | Refusal::Form(at)
+        | Refusal::Field(at) => at,
+        Refusal::Room => 0,
     }
 }
 
@@ -193,7 +192,7 @@ fn rows_agree(s: &[u8; 600000], e: Edition, r: network::Rows) -> bool
         & (r.triplets == triplet_rows(s, e))
 }
 
-fn good(s: &[u8; 600000], c: case_text::Contents) -> bool
+fn good(s: &[u8; 600000], c: Contents) -> bool
     ensures { Tells result (given c ≡ paper_told s.now) }
 {
     let e = c.edition;
@@ -203,13 +202,13 @@ fn good(s: &[u8; 600000], c: case_text::Contents) -> bool
     (vectors::pair(s, 0) == 0) & editions(e, letter) & starts(m, e, letter) & rows_agree(s, e, r)
 }
 
-fn answered(s: &[u8; 600000], v: case_text::Reading) -> bool
+fn answered(s: &[u8; 600000], v: Result<Contents, Refusal>) -> bool
     ensures { Tells result (paper_of v ≡ paper_told s.now) }
 {
-    let case_text::Reading::Good(c) = v else {
-        return refused(s, number(v), place(v));
-    };
-    good(s, c)
+    match v {
+        Ok(c) => good(s, c),
+        Err(r) => refused(s, number(r), place(r)),
+    }
 }
 
 // ---- each table, column by column; these come by value, since each lent one costs the check of the caller a place more
