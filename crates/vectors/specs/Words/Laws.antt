@@ -1,11 +1,9 @@
--- What the answers of tests say, one and several together, and what a turn over the input has found. Assumes nothing.
-use Rattle.std.specs.Prelude.{ℕ, ◌≤◌, ◌<◌, ◌≡◌, refl, Bool, true, false, not, ◌&&◌, eqb}
-use Rattle.std.proofs.Common.{sym, ◌∙◌, true≢false, arith, eq-eqb, eqb-true}
+-- What the answers of tests say, one and several together. Assumes nothing.
+use Rattle.std.specs.Prelude.{ℕ, ◌≡◌, refl, Bool, true, false, not, ◌&&◌, eqb}
+use Rattle.std.proofs.Common.{sym, ◌∙◌, true≢false, eq-eqb, eqb-true}
 use Rattle.std.proofs.lemmas.Bool.{not-true}
 use Rattle.real.specs.Tests.{true-false}
-use Rattle.vectors.specs.Words.{Tells, agreement_of, Found}
-
--- ---- tests
+use Rattle.vectors.specs.Words.{Tells}
 
 pub equal-told : (m n : ℕ) → Tells (eqb m n) (m ≡ n)
 equal-told m n = (eqb-true m n, eq-eqb m n)
@@ -29,19 +27,3 @@ last-told t f g = (λ e. g (t.0 e), λ p. t.1 (f p))
 -- what is told of a value is told of the same one
 pub same-told : {A : Type 0} {x y z : A} {b : Bool} → x ≡ y → Tells b (x ≡ z) → Tells b (y ≡ z)
 same-told e t = last-told t (λ f. e ∙ f) (λ f. sym e ∙ f)
-
--- ---- a turn
-
-pub found-agreed : {most : ℕ} {P : Type 0} → P → Found most 0 P
-found-agreed p = record { small = omega arith; agreed = λ e. p; differed = λ e. absurd (omega arith) }
-
-pub found-differed : {most : ℕ} {P : Type 0} → 1 ≤ most → (P → ⊥) → Found most 1 P
-found-differed k h = record { small = k; agreed = λ e. absurd (omega arith); differed = λ e. h }
-
-pub found-told : {most r : ℕ} {P : Type 0} (b : Bool) → 1 ≤ most → Tells b P → r ≡ agreement_of b → Found most r P
-found-told true k t e = rw e (found-agreed (t.0 refl))
-found-told false k t e = rw e (found-differed k (λ p. true-false (t.1 p) refl))
-
--- no whole record, so nothing is said of it
-pub no_record : {most r : ℕ} {P : Type 0} → 1 < r → r ≤ most → Found most r P
-no_record h k = record { small = k; agreed = λ e. absurd (omega arith); differed = λ e. absurd (omega arith) }
