@@ -1,9 +1,11 @@
--- What the answers of tests say, one and several together. Assumes nothing.
-use Rattle.std.specs.Prelude.{ℕ, ◌≡◌, refl, Bool, true, false, not, ◌&&◌, eqb}
+-- What the answers of tests say, one and several together, and what a turn over the input has found. Assumes nothing.
+use Rattle.std.specs.Prelude.{ℕ, ◌≡◌, refl, Bool, true, false, not, ◌&&◌, eqb, Some, None}
 use Rattle.std.proofs.Common.{sym, ◌∙◌, true≢false, eq-eqb, eqb-true}
 use Rattle.std.proofs.lemmas.Bool.{not-true}
 use Rattle.real.specs.Tests.{true-false}
-use Rattle.vectors.specs.Words.{Tells}
+use Rattle.vectors.specs.Words.{Tells, Found}
+
+-- ---- tests
 
 pub equal-told : (m n : ℕ) → Tells (eqb m n) (m ≡ n)
 equal-told m n = (eqb-true m n, eq-eqb m n)
@@ -27,3 +29,18 @@ last-told t f g = (λ e. g (t.0 e), λ p. t.1 (f p))
 -- what is told of a value is told of the same one
 pub same-told : {A : Type 0} {x y z : A} {b : Bool} → x ≡ y → Tells b (x ≡ z) → Tells b (y ≡ z)
 same-told e t = last-told t (λ f. e ∙ f) (λ f. sym e ∙ f)
+
+-- ---- a turn
+
+pub found-agreed : {P : Type 0} → P → Found (Some true) P
+found-agreed p = (λ e. p, λ q. refl)
+
+pub found-differed : {P : Type 0} → (P → ⊥) → Found (Some false) P
+found-differed h = never-told h
+
+pub found-told : {P : Type 0} (b : Bool) → Tells b P → Found (Some b) P
+found-told b t = t
+
+-- no whole record, so nothing is said of it
+pub no_record : (P : Type 0) → Found None P
+no_record P = tt
