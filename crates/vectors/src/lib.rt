@@ -36,7 +36,7 @@ pub fn double(w: u64) -> f64
     ensures { result ≡ of_bits binary64 w }
 {
     if w % 0x8000_0000_0000_0000 > 0x7ff0_0000_0000_0000 {
-        return 0.0 / 0.0;
+        return f64::NAN;
     }
     f64::from_bits(w)
 }
