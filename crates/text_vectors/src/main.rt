@@ -51,7 +51,7 @@ fn kinds(s: &[u8; 600000], j: usize, col: [u8; 258]) -> bool
     let n = width(s);
     let mut i = 0;
     while i < n {
-        if vectors::wide(col[i]) != told(s, j, i) {
+        if col[i] as u64 != told(s, j, i) {
             return false;
         }
         i += 1;
@@ -427,39 +427,33 @@ fn agrees(text: &[u8], s: &[u8; 600000]) -> bool
         & values_agree(s, g, b, g_fr, b_fr, g_to, b_to, tap, shift, sw)
 }
 
-// One text: 0 where its reading agrees, 1 where it differs, 2 where the input has no whole record left.
-fn next(head: &mut [u8; 4], text: &mut [u8; 65536], s: &mut [u8; 600000]) -> u64
-    ensures { Found 2 result (Agrees (take (pair_of 0 head.new) text.new) s.new) }
+// Whether the reading of one text agrees; None where the input has no whole record left.
+fn next(head: &mut [u8; 4], text: &mut [u8; 65536], s: &mut [u8; 600000]) -> Option<bool>
+    ensures { Found result (Agrees (take (pair_of 0 head.new) text.new) s.new) }
 {
     if !vectors::read(STDIN_FILENO, head, 4) {
-        return 2;
+        return None;
     }
     let n = vectors::pair(head, 0);
     if !vectors::read(STDIN_FILENO, text, n) {
-        return 2;
+        return None;
     }
     if !vectors::read(STDIN_FILENO, s, vectors::pair(head, 2)) {
-        return 2;
+        return None;
     }
     let read: &[u8] = text;
-    vectors::agreement(agrees(&read[..n], s))
+    Some(agrees(&read[..n], s))
 }
 
 fn main() {
     let mut head = [0u8; 4];
     let mut text = io::large_buffer();
     let mut s = [0u8; 600000];
-    let mut done = 0;
-    let mut differing = 0;
     vectors::read(STDIN_FILENO, &mut head, 2);
     let count = vectors::pair(&head, 0);
-    while done < count {
-        let found = next(&mut head, &mut text, &mut s);
-        if found == 2 {
-            break;
-        }
-        differing += found;
-        done += 1;
-    }
-    vectors::sum_up(b"texts", done as u64, differing);
+    vectors::compare(
+        b"texts",
+        count as u64,
+        || next(&mut head, &mut text, &mut s),
+    );
 }
