@@ -1,6 +1,6 @@
 -- The answer of a case text: the reading by its edition's rules joined to that edition's solve. What is printed of it stands in `report`.
 pub mod Laws
-use Rattle.std.specs.Prelude.{ℕ, ◌≤◌, List, [], replicate, Float}
+use Rattle.std.specs.Prelude.{ℕ, ◌≤◌, List, [], replicate, Float, Result, Ok, Err}
 use Rattle.real.specs.Paper.{Paper, given, refused}
 use Rattle.real.specs.Literals.{nought}
 use Rattle.network.specs.Network.{Network, buses_of, slacks_of, generators_of, branches_of, triplets_of, network_of, first_rows}
@@ -11,13 +11,14 @@ use Rattle.trailer.specs.declared.Edition.{Edition}
 use Rattle.trailer.specs.declared.Edition.TheVariants.{First, Second}
 use Rattle.case_text.specs.declared.Contents.{Contents}
 use Rattle.case_text.specs.Answer as Reader
+use Rattle.case_text.specs.declared.Refusal.{Refusal}
+use Rattle.outcome.specs.declared.Outcome.{Outcome}
 use Rattle.outcome.specs.Outcome.{Outs, paper_of}
 use Rattle.tables.specs.Tables.{Answer, solve_of}
 use Rattle.flows.specs.declared.Flows.{Flows}
 use Rattle.flows.specs.Flows.{blank_flows}
 use Rattle.branch_tables.specs.BranchTables.{BranchAnswer, solve_branches_of}
-use Rattle.answered.specs.declared.Answered.{Answered}
-use Rattle.answered.specs.declared.Answered.TheVariants as Answered
+use Rattle.answered.specs.declared.Read.{Read}
 
 -- columns of each table's full size, which the reader is lent
 abbrev pub blank : Network
@@ -78,24 +79,32 @@ second_answer = text_answer_by allowed Second
 abbrev pub text_answer_of : List ℕ → Outs → List Float → TextAnswer
 text_answer_of s o w = text_answer_by allowed (edition_of s) s o w
 
--- ---- the answer's enum on paper
+-- ---- the answer on paper
+
+-- refused by the reader, or read
+abbrev pub Answered : Type 0
+Answered = Result Read Refusal
+
+-- read, with so many buses and branches whose flows are told
+abbrev pub read_as : ℕ → ℕ → Outcome → Answered
+read_as n m r = Ok (record { buses = n; branches = m; outcome = r })
 
 abbrev pub buses_in : Answered → ℕ
-buses_in (Answered.Unread r) = 0
-buses_in (Answered.Read n m r) = n
+buses_in (Ok r) = r.buses
+buses_in (Err f) = 0
 
 abbrev pub branches_in : Answered → ℕ
-branches_in (Answered.Unread r) = 0
-branches_in (Answered.Read n m r) = m
+branches_in (Ok r) = r.branches
+branches_in (Err f) = 0
 
--- a reader's refusal; a good reading is none, and `Unread` is never made of one
+-- a reader's refusal; a good reading is none
 abbrev pub unread : Paper Contents → Paper (ℕ × Float)
 unread (given c) = refused 9 []
 unread (refused number values) = refused number values
 
 abbrev pub paper_in : Answered → Paper (ℕ × Float)
-paper_in (Answered.Unread r) = unread (Reader.paper_of r)
-paper_in (Answered.Read n m r) = paper_of r
+paper_in (Ok r) = paper_of r.outcome
+paper_in (Err f) = unread (Reader.paper_of (Err f))
 
 -- with what is left in the columns, the flows and the workspace
 abbrev pub answered_with : Answered → Outs → Flows → List Float → TextAnswer

@@ -1,20 +1,21 @@
 // What a case text is answered.
 #![tactic(auto)]
 
-use case_text::Reading;
+use case_text::Refusal;
 use flows::Flows;
 use outcome::Outcome;
 
-// Refused by the reader; or read, with the number of buses, that of branches whose flows are told, and what the solve of the tables answers.
+// Of a text that was read: the number of buses, that of branches whose flows are told, and what the solve of the tables answers.
 #[derive(Clone, Copy)]
-pub enum Answered {
-    Unread(Reading),
-    Read(usize, usize, Outcome),
+pub struct Read {
+    pub buses: usize,
+    pub branches: usize,
+    pub outcome: Outcome,
 }
 
-// The same with the flows.
+// A text's answer, a refusal of the reader or what was read, with the flows.
 #[derive(Clone, Copy)]
 pub struct FlowAnswer {
-    pub answered: Answered,
+    pub answered: Result<Read, Refusal>,
     pub flows: Flows,
 }

@@ -8,8 +8,8 @@ ghost use Rattle.tables.specs.Tables.{answer, solve_of};
 ghost use Rattle.flows.specs.Flows.{blank_flows};
 ghost use Rattle.answered.specs.TextAnswer.{answered_with, Few, first_answer};
 
-use answered::Answered;
-use case_text::Reading;
+use answered::Read;
+use case_text::Refusal;
 use network::Rows;
 use outcome::Outcome;
 use starts::AcStart;
@@ -106,7 +106,7 @@ pub fn answer_first(
     q: &mut [f64; 32],
     kinds: &mut [u8; 32],
     w: &mut [f64],
-) -> Answered
+) -> Result<Read, Refusal>
     ensures { let o = outs vm.old va.old p.old q.old kinds.old in
         let e = outs vm.new va.new p.new q.new kinds.new in
         (answered_with result e blank_flows w.new ≡ first_answer text.now o w.old) × Few result }
@@ -130,7 +130,7 @@ pub fn answer_first(
     let mut y_col = [0usize; 256];
     let mut y_re = [0.0; 256];
     let mut y_im = [0.0; 256];
-    let read = editions::read_triplets(
+    let c = editions::read_triplets(
         text,
         &mut kind,
         &mut vm_set,
@@ -151,16 +151,16 @@ pub fn answer_first(
         &mut y_col,
         &mut y_re,
         &mut y_im,
-    );
-    let Reading::Good(c) = read else {
-        return Answered::Unread(read);
-    };
-    let start = c.start;
+    )?;
     let rows = c.rows;
-    let found = solve_rows(
-        rows, start, &kind, &vm_set, &pd, &qd, &pg, &qg, &vm_case, &va_case, &slacks, &va_slacks,
+    let outcome = solve_rows(
+        rows, c.start, &kind, &vm_set, &pd, &qd, &pg, &qg, &vm_case, &va_case, &slacks, &va_slacks,
         &gen_bus, &qmin, &qmax, &br_from, &br_to, &y_row, &y_col, &y_re, &y_im, vm, va, p, q,
         kinds, w,
     );
-    Answered::Read(rows.buses, 0, found)
+    Ok(Read {
+        buses: rows.buses,
+        branches: 0,
+        outcome,
+    })
 }

@@ -1,222 +1,214 @@
-// The lines that the solve program prints, written byte by byte into a lent buffer. Each function answers the place after what it wrote.
+// The lines that the solve program prints, written byte by byte into a lent buffer.
 #![tactic(auto)]
 
 ghost use Rattle.std.specs.Prelude.{[], ◌∷◌, ◌+◌, ◌*◌, ◌≤◌, length};
 ghost use Rattle.real.specs.declared.Value.TheVariants.{Whole, Real};
-ghost use Rattle.lines.specs.Lines.{Wrote, printed_decimal, printed_real, printed_value, ok_line, four_reals, bus_line, bus_lines, branch_line, branch_lines, head_of, refused_line};
+ghost use Rattle.lines.specs.Lines.{printed_decimal, printed_real, printed_value, printed_values, ok_line, four_reals, bus_line, bus_lines, branch_line, branch_lines, refused_line};
+ghost use Rattle.lines.specs.Printer.{HasRoom, Printed, OnePerBus};
 
+use flows::{Flow, Flows};
 use real::Value;
 
-fn put(src: &[u8], at: usize, out: &mut [u8]) -> usize
-    requires { at + length src.now ≤ length out.old }
-    ensures { Wrote out.old at src.now result out.new }
-{
-    for i in 0..src.len() {
-        out[at + i] = src[i];
+// A lent buffer, and the place from which it is written on.
+#[derive(Drop)]
+pub struct Printer<'a> {
+    pub out: &'a mut [u8],
+    pub at: usize,
+}
+
+// What is printed of one bus: its kind, and its answer.
+#[derive(Clone, Copy)]
+pub struct BusFigure {
+    pub kind: u8,
+    pub vm: f64,
+    pub va: f64,
+    pub p: f64,
+    pub q: f64,
+}
+
+// The same of all buses, in columns lent for reading.
+#[derive(Clone, Copy)]
+pub struct BusFigures<'a> {
+    pub kinds: &'a [u8],
+    pub vm: &'a [f64],
+    pub va: &'a [f64],
+    pub p: &'a [f64],
+    pub q: &'a [f64],
+}
+
+impl Printer<'_> {
+    fn put(&mut self, src: &[u8])
+        requires { HasRoom self.old (length src.now) }
+        ensures { Printed src.now (length src.now) self.old self.new }
+    {
+        let end = self.at + src.len();
+        self.out[self.at..end].copy_from_slice(src);
+        self.at = end;
     }
-    at + src.len()
-}
 
-fn put_byte(b: u8, at: usize, out: &mut [u8]) -> usize
-    requires { at + 1 ≤ length out.old }
-    ensures { Wrote out.old at (b ∷ []) result out.new }
-{
-    out[at] = b;
-    at + 1
-}
-
-// A whole number in decimal: at most 20 digits.
-fn put_decimal(n: usize, at: usize, out: &mut [u8]) -> usize
-    requires { at + 20 ≤ length out.old }
-    ensures { Wrote out.old at (printed_decimal n) result out.new × (result ≤ at + 20) }
-{
-    let mut text = [0u8; 20];
-    let k = io::decimal(n as u64, &mut text);
-    put(&text[..k], at, out)
-}
-
-// A real: `nan`, or the 16 hexadecimal digits of its bits.
-fn put_real(x: f64, at: usize, out: &mut [u8]) -> usize
-    requires { at + 16 ≤ length out.old }
-    ensures { Wrote out.old at (printed_real x) result out.new × (result ≤ at + 16) }
-{
-    if x != x {
-        return put(b"nan", at, out);
+    fn put_byte(&mut self, b: u8)
+        requires { HasRoom self.old 1 }
+        ensures { Printed (b ∷ []) 1 self.old self.new }
+    {
+        self.out[self.at] = b;
+        self.at += 1;
     }
-    let mut text = [0u8; 16];
-    let k = io::hex(f64::to_bits(x), 16, &mut text);
-    put(&text[..k], at, out)
-}
 
-// A space and a real.
-fn put_gap(x: f64, at: usize, out: &mut [u8]) -> usize
-    requires { at + 17 ≤ length out.old }
-    ensures { Wrote out.old at (printed_value (Real x)) result out.new × (result ≤ at + 17) }
-{
-    let k = put_byte(b' ', at, out);
-    put_real(x, k, out)
-}
-
-// A space and a whole number.
-fn put_count(n: usize, at: usize, out: &mut [u8]) -> usize
-    requires { at + 21 ≤ length out.old }
-    ensures { Wrote out.old at (printed_value (Whole n)) result out.new × (result ≤ at + 21) }
-{
-    let k = put_byte(b' ', at, out);
-    put_decimal(n, k, out)
-}
-
-// A space and a value.
-fn put_value(v: Value, at: usize, out: &mut [u8]) -> usize
-    requires { at + 21 ≤ length out.old }
-    ensures { Wrote out.old at (printed_value v) result out.new × (result ≤ at + 21) }
-{
-    match v {
-        Value::Whole(n) => put_count(n, at, out),
-        Value::Real(x) => put_gap(x, at, out),
+    // A whole number in decimal: at most 20 digits.
+    fn put_decimal(&mut self, n: usize)
+        requires { HasRoom self.old 20 }
+        ensures { Printed (printed_decimal n) 20 self.old self.new }
+    {
+        let mut text = [0u8; 20];
+        let k = io::decimal(n as u64, &mut text);
+        self.put(&text[..k]);
     }
-}
 
-// The first line of a solved case.
-pub fn put_ok(iterations: usize, residual: f64, out: &mut [u8]) -> usize
-    requires { 41 ≤ length out.old }
-    ensures { Wrote out.old 0 (ok_line iterations residual) result out.new × (result ≤ 41) }
-{
-    let a = put(b"ok", 0, out);
-    let b = put_count(iterations, a, out);
-    let c = put_gap(residual, b, out);
-    put_byte(b'\n', c, out)
-}
-
-// Four reals, each after a space.
-fn put_four(a: f64, b: f64, c: f64, d: f64, at: usize, out: &mut [u8]) -> usize
-    requires { at + 68 ≤ length out.old }
-    ensures { Wrote out.old at (four_reals a b c d) result out.new × (result ≤ at + 68) }
-{
-    let i = put_gap(a, at, out);
-    let j = put_gap(b, i, out);
-    let k = put_gap(c, j, out);
-    put_gap(d, k, out)
-}
-
-// The line of a bus.
-fn put_bus(
-    bus: usize,
-    kind: u8,
-    vm: f64,
-    va: f64,
-    p: f64,
-    q: f64,
-    at: usize,
-    out: &mut [u8],
-) -> usize
-    requires { at + 91 ≤ length out.old }
-    ensures { Wrote out.old at (bus_line bus kind vm va p q) result out.new × (result ≤ at + 91) }
-{
-    let a = put_decimal(bus, at, out);
-    let b = put_byte(b' ', a, out);
-    let c = put_byte(kind, b, out);
-    let d = put_four(vm, va, p, q, c, out);
-    put_byte(b'\n', d, out)
-}
-
-// The lines of the first n buses.
-pub fn put_buses(
-    n: usize,
-    vm: &[f64],
-    va: &[f64],
-    p: &[f64],
-    q: &[f64],
-    kinds: &[u8],
-    at: usize,
-    out: &mut [u8],
-) -> usize
-    requires { (n ≤ length vm.now) × (n ≤ length va.now) × (n ≤ length p.now) × (n ≤ length q.now) × (n ≤ length kinds.now) × (at + 91 * n ≤ length out.old) }
-    ensures { Wrote out.old at (bus_lines n vm.now va.now p.now q.now kinds.now) result out.new × (result ≤ at + 91 * n) }
-{
-    let mut k = at;
-    for b in 0..n {
-        k = put_bus(b, kinds[b], vm[b], va[b], p[b], q[b], k, out);
+    // A real: `nan`, or the 16 hexadecimal digits of its bits.
+    fn put_real(&mut self, x: f64)
+        requires { HasRoom self.old 16 }
+        ensures { Printed (printed_real x) 16 self.old self.new }
+    {
+        if real::is_nan(x) {
+            self.put(b"nan");
+        } else {
+            let mut text = [0u8; 16];
+            let k = io::hex(f64::to_bits(x), 16, &mut text);
+            self.put(&text[..k]);
+        }
     }
-    k
-}
 
-// The line of a branch.
-fn put_branch(
-    row: usize,
-    pf: f64,
-    qf: f64,
-    pt: f64,
-    qt: f64,
-    loss: f64,
-    at: usize,
-    out: &mut [u8],
-) -> usize
-    requires { at + 106 ≤ length out.old }
-    ensures { Wrote out.old at (branch_line row pf qf pt qt loss) result out.new × (result ≤ at + 106) }
-{
-    let a = put_decimal(row, at, out);
-    let b = put_four(pf, qf, pt, qt, a, out);
-    let c = put_gap(loss, b, out);
-    put_byte(b'\n', c, out)
-}
-
-// The lines of the first n branches.
-pub fn put_branches(
-    n: usize,
-    pf: [f64; 64],
-    qf: [f64; 64],
-    pt: [f64; 64],
-    qt: [f64; 64],
-    loss: [f64; 64],
-    at: usize,
-    out: &mut [u8],
-) -> usize
-    requires { (n ≤ 64) × (at + 106 * n ≤ length out.old) }
-    ensures { Wrote out.old at (branch_lines n pf qf pt qt loss) result out.new × (result ≤ at + 106 * n) }
-{
-    let mut k = at;
-    for e in 0..n {
-        k = put_branch(e, pf[e], qf[e], pt[e], qt[e], loss[e], k, out);
+    // A space and a real.
+    fn put_gap(&mut self, x: f64)
+        requires { HasRoom self.old 17 }
+        ensures { Printed (printed_value (Real x)) 17 self.old self.new }
+    {
+        self.put_byte(b' ');
+        self.put_real(x);
     }
-    k
-}
 
-// The beginning of a refusal: `refused` and its number.
-fn put_head(number: usize, out: &mut [u8]) -> usize
-    requires { 28 ≤ length out.old }
-    ensures { Wrote out.old 0 (head_of number) result out.new × (result ≤ 28) }
-{
-    let a = put(b"refused", 0, out);
-    put_count(number, a, out)
-}
+    // A space and a whole number.
+    fn put_count(&mut self, n: usize)
+        requires { HasRoom self.old 21 }
+        ensures { Printed (printed_value (Whole n)) 21 self.old self.new }
+    {
+        self.put_byte(b' ');
+        self.put_decimal(n);
+    }
 
-// A refusal with nothing beside its number.
-pub fn put_bare(number: usize, out: &mut [u8]) -> usize
-    requires { 29 ≤ length out.old }
-    ensures { Wrote out.old 0 (refused_line number []) result out.new × (result ≤ 29) }
-{
-    let a = put_head(number, out);
-    put_byte(b'\n', a, out)
-}
+    // A space and a value.
+    fn put_value(&mut self, v: Value)
+        requires { HasRoom self.old 21 }
+        ensures { Printed (printed_value v) 21 self.old self.new }
+    {
+        match v {
+            Value::Whole(n) => self.put_count(n),
+            Value::Real(x) => self.put_gap(x),
+        }
+    }
 
-// A refusal with one value beside its number.
-pub fn put_one(number: usize, v: Value, out: &mut [u8]) -> usize
-    requires { 50 ≤ length out.old }
-    ensures { Wrote out.old 0 (refused_line number (v ∷ [])) result out.new × (result ≤ 50) }
-{
-    let a = put_head(number, out);
-    let b = put_value(v, a, out);
-    put_byte(b'\n', b, out)
-}
+    // The first line of a solved case.
+    pub fn put_ok(&mut self, iterations: usize, residual: f64)
+        requires { HasRoom self.old 41 }
+        ensures { Printed (ok_line iterations residual) 41 self.old self.new }
+    {
+        self.put(b"ok");
+        self.put_count(iterations);
+        self.put_gap(residual);
+        self.put_byte(b'\n');
+    }
 
-// A refusal with two.
-pub fn put_two(number: usize, v: Value, u: Value, out: &mut [u8]) -> usize
-    requires { 71 ≤ length out.old }
-    ensures { Wrote out.old 0 (refused_line number (v ∷ u ∷ [])) result out.new × (result ≤ 71) }
-{
-    let a = put_head(number, out);
-    let b = put_value(v, a, out);
-    let c = put_value(u, b, out);
-    put_byte(b'\n', c, out)
+    // Four reals, each after a space.
+    fn put_four(&mut self, a: f64, b: f64, c: f64, d: f64)
+        requires { HasRoom self.old 68 }
+        ensures { Printed (four_reals a b c d) 68 self.old self.new }
+    {
+        self.put_gap(a);
+        self.put_gap(b);
+        self.put_gap(c);
+        self.put_gap(d);
+    }
+
+    // The line of a bus.
+    fn put_bus(&mut self, number: usize, bus: BusFigure)
+        requires { HasRoom self.old 91 }
+        ensures { Printed (bus_line number bus.kind bus.vm bus.va bus.p bus.q) 91 self.old self.new }
+    {
+        self.put_decimal(number);
+        self.put_byte(b' ');
+        self.put_byte(bus.kind);
+        self.put_four(bus.vm, bus.va, bus.p, bus.q);
+        self.put_byte(b'\n');
+    }
+
+    // The lines of the first n buses.
+    pub fn put_buses(&mut self, n: usize, buses: BusFigures)
+        requires { OnePerBus n buses × HasRoom self.old (91 * n) }
+        ensures { let b = buses.entry in
+            Printed (bus_lines n b.vm.now b.va.now b.p.now b.q.now b.kinds.now) (91 * n) self.old self.new }
+    {
+        for b in 0..n {
+            self.put_bus(
+                b,
+                BusFigure {
+                    kind: buses.kinds[b],
+                    vm: buses.vm[b],
+                    va: buses.va[b],
+                    p: buses.p[b],
+                    q: buses.q[b],
+                },
+            );
+        }
+    }
+
+    // The line of a branch.
+    fn put_branch(&mut self, row: usize, f: Flow)
+        requires { HasRoom self.old 106 }
+        ensures { Printed (branch_line row f.pf f.qf f.pt f.qt f.loss) 106 self.old self.new }
+    {
+        self.put_decimal(row);
+        self.put_four(f.pf, f.qf, f.pt, f.qt);
+        self.put_gap(f.loss);
+        self.put_byte(b'\n');
+    }
+
+    // The lines of the first n branches.
+    pub fn put_branches(&mut self, n: usize, f: &Flows)
+        requires { (n ≤ 64) × HasRoom self.old (106 * n) }
+        ensures { Printed (branch_lines n f.now.pf f.now.qf f.now.pt f.now.qt f.now.loss) (106 * n) self.old self.new }
+    {
+        for e in 0..n {
+            self.put_branch(
+                e,
+                Flow {
+                    pf: f.pf[e],
+                    qf: f.qf[e],
+                    pt: f.pt[e],
+                    qt: f.qt[e],
+                    loss: f.loss[e],
+                },
+            );
+        }
+    }
+
+    // Values, each after a space.
+    fn put_values(&mut self, values: &[Value])
+        requires { HasRoom self.old (21 * length values.now) }
+        ensures { Printed (printed_values values.now) (21 * length values.now) self.old self.new }
+    {
+        for v in values {
+            self.put_value(*v);
+        }
+    }
+
+    // A refusal: its number and the values beside it.
+    pub fn put_refused(&mut self, number: usize, values: &[Value])
+        requires { HasRoom self.old (29 + 21 * length values.now) }
+        ensures { Printed (refused_line number values.now) (29 + 21 * length values.now) self.old self.new }
+    {
+        self.put(b"refused");
+        self.put_count(number);
+        self.put_values(values);
+        self.put_byte(b'\n');
+    }
 }

@@ -22,9 +22,12 @@ end_missing n a b i = bus_missing n a i || bus_missing n b i
 abbrev pub first_field : ℕ → ℕ → ℕ
 first_field n bus = cond (leb n bus) 0 1
 
+abbrev pub missing_at : Naming → ℕ → ℕ → MissingBus
+missing_at table row field = record { table = table; row = row; field = field }
+
 -- a row that was found, with its field
 abbrev pub row_in : Naming → (ℕ → ℕ) → Option ℕ → Option MissingBus
-row_in table field (Some i) = Some (record { table = table; row = i; field = field i })
+row_in table field (Some i) = Some (missing_at table i (field i))
 row_in table field None = None
 
 -- "The lowest row is told": of a table whose rows name one bus, and of one whose rows name two

@@ -1,7 +1,7 @@
 // The report: from the bytes of a case text to the bytes that the solve program prints.
 #![tactic(auto)]
 
-ghost use Rattle.std.specs.Prelude.{◌≤◌, length};
+ghost use Rattle.std.specs.Prelude.{◌≤◌, length, Err};
 ghost use Rattle.io.specs.Counts.{IsPrefixLen};
 ghost use Rattle.case_text.specs.Answer as Reader;
 ghost use Rattle.outcome.specs.Outcome.{outs, lengths_in, OnePerBus, ok, paper_of};
@@ -9,8 +9,8 @@ ghost use Rattle.answered.specs.TextAnswer.{buses_in, branches_in, paper_in, Few
 ghost use Rattle.lines.specs.Lines.{Wrote};
 ghost use Rattle.report.specs.Report.{buffer_size, printed_of, refusal_of, report_of, Reported};
 
-use answered::Answered;
-use case_text::Reading;
+use answered::Read;
+use case_text::Refusal;
 use flows::Flows;
 use outcome::Outcome;
 use real::Value;
@@ -19,19 +19,18 @@ use real::Value;
 pub const BUFFER: usize = 10240;
 
 // What is printed of a text that the reader refuses.
-fn put_reading(r: Reading, out: &mut [u8]) -> usize
+fn put_reading(r: Refusal, out: &mut [u8]) -> usize
     requires { buffer_size ≤ length out.old }
-    ensures { Wrote out.old 0 (refusal_of (Reader.paper_of r)) result out.new × (result ≤ buffer_size) }
+    ensures { Wrote out.old 0 (refusal_of (Reader.paper_of (Err r))) result out.new × (result ≤ buffer_size) }
 {
     match r {
-        Reading::Good(_) => lines::put_bare(9, out),
-        Reading::Length(at) => lines::put_one(1, Value::Whole(at), out),
-        Reading::Trailer(at) => lines::put_one(2, Value::Whole(at), out),
-        Reading::Byte(at) => lines::put_one(3, Value::Whole(at), out),
-        Reading::Rows(at) => lines::put_one(6, Value::Whole(at), out),
-        Reading::Form(at) => lines::put_one(4, Value::Whole(at), out),
-        Reading::Field(at) => lines::put_one(5, Value::Whole(at), out),
-        Reading::Room => lines::put_bare(9, out),
+        Refusal::Length(at) => lines::put_one(1, Value::Whole(at), out),
+        Refusal::Trailer(at) => lines::put_one(2, Value::Whole(at), out),
+        Refusal::Byte(at) => lines::put_one(3, Value::Whole(at), out),
+        Refusal::Rows(at) => lines::put_one(6, Value::Whole(at), out),
+        Refusal::Form(at) => lines::put_one(4, Value::Whole(at), out),
+        Refusal::Field(at) => lines::put_one(5, Value::Whole(at), out),
+        Refusal::Room => lines::put_bare(9, out),
     }
 }
 
@@ -114,7 +113,7 @@ fn put_outcome(
 
 // Prints an answer.
 fn put_answer(
-    a: Answered,
+    a: Result<Read, Refusal>,
     vm: &[f64; 32],
     va: &[f64; 32],
     p: &[f64; 32],
@@ -128,8 +127,8 @@ fn put_answer(
         Wrote out.old 0 (printed_of (buses_in a) (branches_in a) (paper_in a) o f) result out.new × (result ≤ buffer_size) }
 {
     match a {
-        Answered::Unread(r) => put_reading(r, out),
-        Answered::Read(n, m, r) => put_outcome(r, n, m, vm, va, p, q, kinds, f, out),
+        Ok(r) => put_outcome(r.outcome, r.buses, r.branches, vm, va, p, q, kinds, f, out),
+        Err(r) => put_reading(r, out),
     }
 }
 
@@ -144,7 +143,5 @@ pub fn report(text: &[u8], out: &mut [u8; BUFFER], space: &mut [f64; 6144]) -> u
     let mut q = [0.0; 32];
     let mut kinds = [0u8; 32];
     let r = answer::answer(text, &mut vm, &mut va, &mut p, &mut q, &mut kinds, space);
-    let a = r.answered;
-    let f = r.flows;
-    put_answer(a, &vm, &va, &p, &q, &kinds, f, out)
+    put_answer(r.answered, &vm, &va, &p, &q, &kinds, r.flows, out)
 }

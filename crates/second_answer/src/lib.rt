@@ -10,8 +10,7 @@ ghost use Rattle.branch_tables.specs.BranchTables.{branch_answer, solve_branches
 ghost use Rattle.flows.specs.Flows.{blank_flows};
 ghost use Rattle.answered.specs.TextAnswer.{answered_with, Few, second_answer};
 
-use answered::{Answered, FlowAnswer};
-use case_text::Reading;
+use answered::{FlowAnswer, Read};
 use flows::Flows;
 use network::Rows;
 use outcome::Outcome;
@@ -201,19 +200,26 @@ pub fn answer_second(
         &mut shift,
         &mut sw,
     );
-    let Reading::Good(c) = read else {
-        let answered = Answered::Unread(read);
-        let flows = flows::blank();
-        return FlowAnswer { answered, flows };
+    let c = match read {
+        Ok(c) => c,
+        Err(refusal) => {
+            return FlowAnswer {
+                answered: Err(refusal),
+                flows: flows::blank(),
+            };
+        }
     };
-    let start = c.start;
     let rows = c.rows;
     let found = solve_branch_rows(
-        rows, start, kind, vm_set, pd, qd, pg, qg, vm_case, va_case, slacks, va_slacks, gen_bus,
+        rows, c.start, kind, vm_set, pd, qd, pg, qg, vm_case, va_case, slacks, va_slacks, gen_bus,
         qmin, qmax, from, to, g, b, g_fr, b_fr, g_to, b_to, tap, shift, sw, vm, va, p, q, kinds, w,
     );
-    let outcome = found.outcome;
-    let flows = found.flows;
-    let answered = Answered::Read(rows.buses, rows.branches, outcome);
-    FlowAnswer { answered, flows }
+    FlowAnswer {
+        answered: Ok(Read {
+            buses: rows.buses,
+            branches: rows.branches,
+            outcome: found.outcome,
+        }),
+        flows: found.flows,
+    }
 }

@@ -30,8 +30,8 @@ use Rattle.pf_ac.specs.WithStart.{ac_pf_of}
 use Rattle.pf_ac.specs.Search.{nth_start, better_of, try_of, search_from, search_of}
 use Rattle.outcome.specs.Outcome.{Outs, outs, ok, lengths_in, roomy, with_answer, zeros}
 use Rattle.tables.specs.Tables.{answer, checked_of, run_of, after_check, solve_of}
-use Rattle.outcome.specs.declared.Checked.TheVariants as Checked
-use Rattle.outcome.specs.declared.Outcome.TheVariants.{Room}
+use Rattle.std.specs.Prelude.{Ok, Err}
+use Rattle.outcome.specs.declared.Refusal.TheVariants.{Room}
 use Rattle.starts.specs.declared.AcStart.{AcStart}
 use Rattle.starts.specs.declared.AcStart.TheVariants.{Flat, Case}
 
@@ -51,7 +51,7 @@ row o = outs (set o.vm 0 (double 1)) (set o.va 0 (double 0)) (set o.p 0 (double 
 -- whatever stood in the columns and in the workspace
 pub listing-solved : (o : Outs) (w : List Float) → roomy 1 (lengths_in o) (length w) ≡ true → solve_of Flat listing o w ≡ answer (ok 0 (double 0)) (row o) (zeros w)
 unfolding norm_of absolute sin_cos_of group_of lowest tally each labels_of any_below kinds_of count_to layout_of sum_at limits_of stores voltages_of currents_to phasors_of injected_of measured_of steps_from newton_of move_of moves_of pinned kept_kinds schedule_of letters_of round_of rounds_from qlim_of later_row references_of flat_of ac_pf_of nth_start better_of try_of search_from search_of both first_below in_column in_ends missing_in counted with_answer checked_of run_of solve_of of_int of_bits add sub mul div neg lt le is_nan
-listing-solved o w h = ap (λ (r : Bool). after_check Flat listing o w (cond r Checked.Ready (Checked.Refused Room))) h
+listing-solved o w h = ap (λ (r : Bool). after_check Flat listing o w (cond r (Ok tt) (Err Room))) h
 
 -- no bus, and so no row in any table
 abbrev empty : Network
@@ -61,5 +61,5 @@ empty = network_of (buses_of [] [] [] [] [] [] [] []) (slacks_of [] []) (generat
 pub no-buses-solved : (start : AcStart) (o : Outs) (w : List Float) → roomy 0 (lengths_in o) (length w) ≡ true
     → solve_of start empty o w ≡ answer (ok 0 (double 0)) o (zeros w)
 unfolding norm_of absolute sin_cos_of group_of lowest tally each labels_of any_below kinds_of count_to layout_of sum_at limits_of stores voltages_of currents_to phasors_of injected_of measured_of steps_from newton_of move_of moves_of pinned kept_kinds schedule_of letters_of round_of rounds_from qlim_of later_row references_of flat_of ac_pf_of nth_start better_of try_of search_from search_of both first_below in_column in_ends missing_in counted with_answer checked_of run_of solve_of of_int of_bits add sub mul div neg lt le is_nan case_of
-no-buses-solved Flat o w h = ap (λ (r : Bool). after_check Flat empty o w (cond r Checked.Ready (Checked.Refused Room))) h
-no-buses-solved Case o w h = ap (λ (r : Bool). after_check Case empty o w (cond r Checked.Ready (Checked.Refused Room))) h
+no-buses-solved Flat o w h = ap (λ (r : Bool). after_check Flat empty o w (cond r (Ok tt) (Err Room))) h
+no-buses-solved Case o w h = ap (λ (r : Bool). after_check Case empty o w (cond r (Ok tt) (Err Room))) h

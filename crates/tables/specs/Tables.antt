@@ -2,7 +2,7 @@
 pub mod Laws
 pub mod Withheld
 pub mod Space
-use Rattle.std.specs.Prelude.{ℕ, cond, List, length, Float}
+use Rattle.std.specs.Prelude.{ℕ, cond, List, length, Float, Result, Ok, Err}
 use Rattle.real.specs.Paper.{Paper}
 use Rattle.network.specs.Network.{Network, bus_count}
 use Rattle.network.specs.Checks.{counted}
@@ -12,17 +12,17 @@ use Rattle.starts.specs.declared.AcStart.{AcStart}
 use Rattle.pf_ac.specs.declared.AcPf.{AcPf}
 use Rattle.pf_ac.specs.Search.{Searched, searched}
 use Rattle.pf_ac.specs.WithStart.{ac_pf_of}
-use Rattle.outcome.specs.declared.Checked.{Checked}
-use Rattle.outcome.specs.declared.Checked.TheVariants as Checked
-use Rattle.outcome.specs.declared.Outcome.TheVariants.{Counts, Room}
-use Rattle.outcome.specs.Outcome.{paper_of, Outs, Lengths, lengths_in, roomy, bus_refusal, zeros, Written, written, write_of}
+use Rattle.outcome.specs.declared.Solved.{Solved}
+use Rattle.outcome.specs.declared.Refusal.{Refusal}
+use Rattle.outcome.specs.declared.Refusal.TheVariants.{Counts, Room}
+use Rattle.outcome.specs.Outcome.{refusal_paper, Outs, Lengths, lengths_in, roomy, bus_refusal, zeros, Written, written, write_of}
 
 -- ---- the checks and the run
 
 -- 7, 9, 8, 11, 12, 13, in that order
-unfoldable pub checked_of : Network → Lengths → ℕ → Checked
+unfoldable pub checked_of : Network → Lengths → ℕ → Result (Unit {0}) Refusal
 checked_of t m space =
-    cond (counted t) (cond (roomy (bus_count t) m space) (bus_refusal (missing_in t)) (Checked.Refused Room)) (Checked.Refused Counts)
+    cond (counted t) (cond (roomy (bus_count t) m space) (bus_refusal (missing_in t)) (Err Room)) (Err Counts)
 
 -- the result kept, with the workspace cleared
 pub data Ran : Type 0 where
@@ -51,9 +51,9 @@ abbrev pub after_run : Network → Outs → Ran → Answer
 after_run t o (ran found best w) = with_space (write_of (bus_count t) t.triplets found best.ended.point best.kinds o) w
 
 -- a refusal of the checks leaves all lent memory untouched; 10 leaves the answer columns untouched
-abbrev pub after_check : AcStart → Network → Outs → List Float → Checked → Answer
-after_check start t o w Checked.Ready = after_run t o (run_of start t w)
-after_check start t o w (Checked.Refused r) = answer (paper_of r) o w
+abbrev pub after_check : AcStart → Network → Outs → List Float → Result (Unit {0}) Refusal → Answer
+after_check start t o w (Ok x) = after_run t o (run_of start t w)
+after_check start t o w (Err r) = answer (refusal_paper r) o w
 
 unfoldable pub solve_of : AcStart → Network → Outs → List Float → Answer
 solve_of start t o w = after_check start t o w (checked_of t (lengths_in o) (length w))

@@ -1,14 +1,14 @@
 -- Refusals 7, 9 and of branches 13 are not met by a text, a row that names a missing bus is a line of it, withheld figures don't show in its answer, nothing that
 -- stood in the workspace does, and a text that 01's digit rule accepted is answered as it was. Assumes nothing.
-use Rattle.std.specs.Prelude.{ℕ, ◌≤◌, ◌≡◌, List, true, ◌⊎◌, length, Float}
+use Rattle.std.specs.Prelude.{ℕ, ◌≤◌, ◌≡◌, List, true, ◌⊎◌, length, Float, Ok, Err}
 use Rattle.std.proofs.Math.Path.{refl}
 use Rattle.std.proofs.Common.{ap, ◌∙◌, inl, inr, ⊎_elim, arith}
 use Rattle.std.proofs.Math.Seq.{length-take-le}
 use borrow.Author.Tests.{le-leb}
-use Rattle.real.specs.Paper.{Paper, given, refused, on_given}
+use Rattle.real.specs.Paper.{given, refused, on_given}
 use Rattle.real.specs.Tests.{both}
 use Rattle.network.specs.declared.Rows.{Rows}
-use Rattle.network.specs.Network.{Network, bus_count, AtMost, room_of, fits_of, first_rows}
+use Rattle.network.specs.Network.{Network, bus_count, AtMost, room_of, first_rows}
 use Rattle.network.specs.Network.Laws.{at-most-fits}
 use Rattle.network.specs.BranchTable.{BranchNetwork, branch_room_of, with_triplets, no_triplets, first_branch_rows}
 use Rattle.network.specs.BranchTable.Laws.{room-for-branches, first-branches-counted, first-values-counted, first-branch-buses}
@@ -23,8 +23,7 @@ use Rattle.trailer.specs.Trailer.{trailer_start, edition_of}
 use Rattle.trailer.specs.declared.Edition.{Edition}
 use Rattle.trailer.specs.declared.Edition.TheVariants.{First, Second}
 use Rattle.case_text.specs.declared.Contents.{Contents}
-use Rattle.case_text.specs.declared.Reading.{Reading}
-use Rattle.case_text.specs.Text.{text_by, checked_text, text_of}
+use Rattle.case_text.specs.Text.{Reading, text_by, checked_text, text_of}
 use Rattle.case_text.specs.Text.Laws.{Accepted, Where, accepted-has, text-sound, never-room}
 use Rattle.case_text.specs.Named.{LowestLine}
 use Rattle.case_text.specs.Named.Laws.{lines_of, branch-lines-of, told_line}
@@ -48,6 +47,7 @@ use Rattle.branch_tables.specs.BranchTables.Laws.{branches-never-7-9}
 use Rattle.branch_tables.specs.BranchTables.Withheld.{AlikeBranches, branches-withheld}
 use Rattle.branch_tables.specs.BranchTables.Space.{branches-answer-space, branches-columns-space, branches-flows-space}
 use Rattle.answered.specs.TextAnswer.{blank, blank_branches, TextAnswer, text_answer, told, told_branches, unread, after_first, after_second, text_answer_by, text_answer_of}
+use Rattle.case_text.specs.declared.Refusal.{Refusal}
 
 -- ---- refusals 7 and 9
 
@@ -65,13 +65,11 @@ text-fits Second s t c a =
     record { buses = m.buses; slacks = m.slacks; generators = m.generators; branches = m.branches; triplets = omega arith }
 
 pub reader-never-9 : (e : Edition) (s : List ℕ) → judged_of e s (blank_room e) ≡ checked_text e s
-reader-never-9 e s = go (checked_text e s) (Reader.paper_of (checked_text e s)) refl (text-sound e s)
+reader-never-9 e s = go (checked_text e s) (text-sound e s)
   where
-    go : (v : Reading) (p : Paper Contents) → Reader.paper_of v ≡ p → Where (Accepted e s (trailer_start e s)) p → with_room v (blank_room e) ≡ v
-    go v (given c) k a =
-        let fits : fits_of c.rows (blank_room e) ≡ true = at-most-fits c.rows (blank_room e) (text-fits e s _ c a) in
-        rw (k, fits)
-    go v (refused number values) k a = rw k
+    go : (v : Reading) → Where (Accepted e s (trailer_start e s)) (Reader.paper_of v) → with_room v (blank_room e) ≡ v
+    go (Ok c) a = rw (at-most-fits c.rows (blank_room e) (text-fits e s _ c a))
+    go (Err f) a = refl
 
 -- what is left of the solve once 7 and 9 are out: the refusal of a row that names a missing bus (8, 11, 12, 13), or the run
 abbrev pub solved_or_missing : AcStart → Network → Outs → List Float → Answer
@@ -113,26 +111,26 @@ module _ (s : List ℕ) (o : Outs) (w : List Float) (room : (n : ℕ) → n ≤ 
 
   edition-never-7-9 : (e : Edition) → text_answer_by allowed e s o w ≡ text_gives e s o w (checked_text e s)
   unfolding text_answer_by read_first_by read_second_by
-  edition-never-7-9 First = rw (reader-never-9 First s) (go (checked_text First s) (Reader.paper_of (checked_text First s)) refl (text-sound First s))
+  edition-never-7-9 First = rw (reader-never-9 First s) (go (checked_text First s) (text-sound First s))
     where
-      go : (v : Reading) (p : Paper Contents) → Reader.paper_of v ≡ p → Where (Accepted First s (trailer_start First s)) p
+      go : (v : Reading) → Where (Accepted First s (trailer_start First s)) (Reader.paper_of v)
           → after_first (result_of v (filled_of s (trailer_start First s) blank) blank) o w ≡ text_gives First s o w v
-      go v (given c) k a =
+      go (Ok c) a =
           let few = rows-most First s _ c a in
           let fits : AtMost c.rows (room_of (filled_of s (trailer_start First s) blank)) = rw (filled-room s (trailer_start First s) blank) (text-fits First s _ c a) in
-          rw k (ap (told c.rows.buses) (rows-never-7-9 c.start c.rows (filled_of s (trailer_start First s) blank) few fits))
-      go v (refused number values) k a = rw k
-  edition-never-7-9 Second = rw (reader-never-9 Second s) (go (checked_text Second s) (Reader.paper_of (checked_text Second s)) refl (text-sound Second s))
+          ap (told c.rows.buses) (rows-never-7-9 c.start c.rows (filled_of s (trailer_start First s) blank) few fits)
+      go (Err f) a = refl
+  edition-never-7-9 Second = rw (reader-never-9 Second s) (go (checked_text Second s) (text-sound Second s))
     where
-      go : (v : Reading) (p : Paper Contents) → Reader.paper_of v ≡ p → Where (Accepted Second s (trailer_start Second s)) p
+      go : (v : Reading) → Where (Accepted Second s (trailer_start Second s)) (Reader.paper_of v)
           → after_second (result_of v (branch_filled_of s (trailer_start Second s) blank_branches) blank_branches) o w ≡ text_gives Second s o w v
-      go v (given c) k a =
+      go (Ok c) a =
           let few = rows-most Second s _ c a in
           let fits : AtMost c.rows (branch_room_of (branch_filled_of s (trailer_start Second s) blank_branches)) = rw (branch-filled-room s (trailer_start Second s) blank_branches) (text-fits Second s _ c a) in
-          rw k (ap (told_branches c.rows.buses c.rows.branches) (branch-rows-never-7-9 c.start c.rows (branch_filled_of s (trailer_start Second s) blank_branches) few fits))
-      go v (refused number values) k a = rw k
+          ap (told_branches c.rows.buses c.rows.branches) (branch-rows-never-7-9 c.start c.rows (branch_filled_of s (trailer_start Second s) blank_branches) few fits)
+      go (Err f) a = refl
 
-  pub answer-never-7-9 : (text_answer_of s o w ≡ text_gives (edition_of s) s o w (text_of s)) × (text_of s ≡ Reading.Room → ⊥)
+  pub answer-never-7-9 : (text_answer_of s o w ≡ text_gives (edition_of s) s o w (text_of s)) × (text_of s ≡ Err Refusal.Room → ⊥)
   answer-never-7-9 = (edition-never-7-9 (edition_of s), never-room (edition_of s) s)
 
   -- ---- a row that names a missing bus
@@ -152,7 +150,7 @@ module _ (s : List ℕ) (o : Outs) (w : List Float) (room : (n : ℕ) → n ≤ 
   row_refused e c table i j = text_answer c.rows.buses (branches_told e c) (paper_of (row_refusal table i j)) o blank_flows w
 
   -- the refusal's row is a line of the text: the first of its section that names a missing bus, by the field told
-  edition-line : (e : Edition) (c : Contents) → checked_text e s ≡ Reading.Good c → (table : Naming) (i j : ℕ) → missing_in (searched e c) ≡ MissingBus.At table i j
+  edition-line : (e : Edition) (c : Contents) → checked_text e s ≡ Ok c → (table : Naming) (i j : ℕ) → missing_in (searched e c) ≡ MissingBus.At table i j
       → (text_answer_by allowed e s o w ≡ row_refused e c table i j) × LowestLine e s (trailer_start e s) table i j
   edition-line First c h table i j q =
       let a = accepted-has First s c h in
@@ -161,7 +159,7 @@ module _ (s : List ℕ) (o : Outs) (w : List Float) (room : (n : ℕ) → n ≤ 
       let a = accepted-has Second s c h in
       (edition-never-7-9 Second ∙ rw (h, q), told_line Second s (trailer_start Second s) _ (branch-lines-of s (trailer_start Second s) c a blank_branches (text-fits Second s _ c a)) table i j q)
 
-  pub refused_line_lem : (c : Contents) → text_of s ≡ Reading.Good c → (table : Naming) (i j : ℕ) → missing_in (searched (edition_of s) c) ≡ MissingBus.At table i j
+  pub refused_line_lem : (c : Contents) → text_of s ≡ Ok c → (table : Naming) (i j : ℕ) → missing_in (searched (edition_of s) c) ≡ MissingBus.At table i j
       → (text_answer_of s o w ≡ row_refused (edition_of s) c table i j) × LowestLine (edition_of s) s (trailer_start (edition_of s) s) table i j
   refused_line_lem = edition-line (edition_of s)
 
@@ -218,7 +216,7 @@ module _ (rule : DigitRule) (s : List ℕ) (o : Outs) (w v : List Float) (size :
 -- ---- 02, Ask 2
 
 -- a text that 01's digit rule accepted is answered as it was: the answer, the columns and the workspace
-pub answer-kept : (s : List ℕ) (c : Contents) → text_by allowed_before First s ≡ Reading.Good c → (o : Outs) (w : List Float)
+pub answer-kept : (s : List ℕ) (c : Contents) → text_by allowed_before First s ≡ Ok c → (o : Outs) (w : List Float)
     → text_answer_of s o w ≡ text_answer_by allowed_before First s o w
 unfolding text_answer_by
 answer-kept s c h o w = rw (accepted-first allowed_before s c h) (ap (λ r. after_first r o w) (read_kept s c h blank))

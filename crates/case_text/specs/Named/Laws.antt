@@ -1,5 +1,5 @@
 -- The rows of an accepted text's tables are its lines, so the row that is told is the line that a reader counts. Assumes nothing.
-use Rattle.std.specs.Prelude.{ℕ, zero, suc, ◌<◌, ◌≡◌, refl, List, []}
+use Rattle.std.specs.Prelude.{ℕ, zero, suc, ◌<◌, ◌≡◌, refl, List, [], Some}
 use Rattle.std.proofs.Math.Path.{ap}
 use Rattle.std.proofs.Common.{◌∙◌, ⊎_elim, arith}
 use Rattle.std.proofs.Math.ListN.{length, length-map}
@@ -7,10 +7,9 @@ use Rattle.network.specs.Network.{Network, bus_count, AtMost, room_of, first_row
 use Rattle.network.specs.Network.Laws.{room-buses, room-slacks, room-generators, room-branches, room-triplets}
 use Rattle.network.specs.BranchTable.{BranchNetwork, branch_room_of, with_triplets, no_triplets, first_branch_rows}
 use Rattle.network.specs.BranchTable.Laws.{room-branch-table}
-use Rattle.network.specs.Missing.{missing_in, LowestRow, LowestEnd, Means}
+use Rattle.network.specs.Missing.{missing_at, missing_in, LowestRow, LowestEnd, Means}
 use Rattle.network.specs.Missing.Laws.{missing-means}
 use Rattle.network.specs.declared.Naming.{Naming}
-use Rattle.network.specs.declared.MissingBus.TheVariants as MissingBus
 use Rattle.rows.specs.Rows.{rows_of}
 use Rattle.rows.specs.declared.Section.{Section}
 use Rattle.columns.specs.Columns.{number_field, column_of}
@@ -130,10 +129,10 @@ module _ (e : Edition) (s : List ℕ) (t : ℕ) where
   triplet-line Second a b p q i j w = let none : i < 0 = rw p at w.inside in absurd (omega arith)
 
   -- the row and the field that are told of tables whose rows are lines
-  pub told_line : (n : Network) → LinesOf e s t n → (table : Naming) (i j : ℕ) → missing_in n ≡ MissingBus.At table i j → LowestLine e s t table i j
+  pub told_line : (n : Network) → LinesOf e s t n → (table : Naming) (i j : ℕ) → missing_in n ≡ Some (missing_at table i j) → LowestLine e s t table i j
   told_line n h table i j q = go table (rw q at (missing-means n (even Naming.Branch _ _ h.from h.to) (even-triplets e _ _ h.row h.col)))
     where
-      go : (table : Naming) → Means n (MissingBus.At table i j) → LowestLine e s t table i j
+      go : (table : Naming) → Means n (Some (missing_at table i j)) → LowestLine e s t table i j
       go Naming.Slack w = row_line Naming.Slack refl i j (rw (h.buses, h.slacks) at w)
       go Naming.Generator w = row_line Naming.Generator refl i j (rw (h.buses, h.generators) at w.1)
       go Naming.Branch w = end_line Naming.Branch refl i j (rw (h.buses, h.from, h.to) at w.1)

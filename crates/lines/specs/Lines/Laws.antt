@@ -1,6 +1,6 @@
 -- Bytes after bytes, digits, and the parts of a refusal. Assumes nothing.
 use Rattle.std.specs.Prelude.{ℕ, zero, suc, ◌+◌, ◌*◌, ◌/◌, ◌%◌, ◌^◌, ◌-◌, ◌≤◌, ◌<◌, ◌≡◌, refl, Bool, true, false, cond, leb, ltb, length, get_or, set, take, Float}
-use Rattle.std.proofs.Common.{sym, ◌∙◌, pow-suc, mod-eq_of_lt, arith, leb-true, leb-false, lt-ltb, le-ltb, length-append, take-suc, length-take-le}
+use Rattle.std.proofs.Common.{sym, ◌∙◌, pow-suc, mod-eq_of_lt, arith, leb-true, leb-false, lt-ltb, le-ltb, length-append}
 use Rattle.std.proofs.Math.Path.{ap}
 use mathlib.Core.List.{List, [], ◌∷◌, ◌++◌, append_assoc, append-nil}
 use Rattle.std.proofs.Math.Nat.{pow-le-pow_right}
@@ -26,21 +26,8 @@ then {l} {m} {n} {a} {b} {at} {k} {r} u v = record {
   left = v.left ∙ rw (u.left, u.ends) (sets-append a b l at);
 }
 
--- with a limit to the place after: known bytes end where they must, and the most that two writes take adds up
-pub exactly : {l m a : List ℕ} {at k : ℕ} → Wrote l at a k m → Wrote l at a k m × (k ≤ at + length a)
-exactly u = (u, omega (arith, u.ends))
-
-pub within : {l m n a b : List ℕ} {at k r : ℕ} (i j : ℕ) → Wrote l at a k m × (k ≤ at + i) → Wrote m k b r n × (r ≤ k + j) → Wrote l at (a ++ b) r n × (r ≤ at + (i + j))
-within i j u v = (then u.0 v.0, omega (arith, u.1, v.1))
-
 pub same_bytes : {l m a b : List ℕ} {at r : ℕ} → a ≡ b → Wrote l at a r m → Wrote l at b r m
 same_bytes e w = rw (← e) w
-
--- one byte more of a source
-pub one_more : (s l : List ℕ) (at i : ℕ) → i < length s → set (sets l at (take i s)) (at + i) (get_or s i 0) ≡ sets l at (take (suc i) s)
-one_more s l at i h =
-    let e : length (take i s) ≡ i = length-take-le i s (omega arith) in
-    rw (take-suc s i 0 h) (rw e at (sets-append (take i s) (get_or s i 0 ∷ []) l at))
 
 -- ---- decimals
 
@@ -88,18 +75,25 @@ real-is x h = rw h refl
 
 -- ---- refusals
 
-module _ (n : ℕ) {l m : List ℕ} {r : ℕ} where
-  pub bare : Wrote l 0 (head_of n ++ (10 ∷ [])) r m → Wrote l 0 (refused_line n []) r m
-  unfolding refused_line printed_values
-  bare w = same_bytes (ap (λ (a : List ℕ). a ++ (10 ∷ [])) (sym (append-nil (head_of n)))) w
+-- one value more
+pub printed-more : (vs : List Value) (i : ℕ) (d : Value) → i < length vs → printed_values (take (suc i) vs) ≡ printed_values (take i vs) ++ printed_value (get_or vs i d)
+unfolding printed_values
+printed-more [] i d h = absurd (omega arith)
+printed-more (v ∷ vs) zero d h = append-nil (printed_value v)
+printed-more (v ∷ vs) (suc i) d h = rw (printed-more vs i d (omega arith)) (sym (append_assoc (printed_value v) (printed_values (take i vs)) (printed_value (get_or vs i d))))
 
-  pub one_value : (v : Value) → Wrote l 0 (head_of n ++ printed_value v ++ (10 ∷ [])) r m → Wrote l 0 (refused_line n (v ∷ [])) r m
+-- the line of a refusal that has no value, one or two
+module _ (n : ℕ) where
+  pub bare : refused_line n [] ≡ head_of n ++ (10 ∷ [])
   unfolding refused_line printed_values
-  one_value v w = same_bytes (ap (λ (a : List ℕ). head_of n ++ a ++ (10 ∷ [])) (sym (append-nil (printed_value v)))) w
+  bare = ap (λ (a : List ℕ). a ++ (10 ∷ [])) (append-nil (head_of n))
 
-  pub two-values : (v u : Value) → Wrote l 0 (head_of n ++ printed_value v ++ printed_value u ++ (10 ∷ [])) r m → Wrote l 0 (refused_line n (v ∷ u ∷ [])) r m
+  pub one_value : (v : Value) → refused_line n (v ∷ []) ≡ head_of n ++ printed_value v ++ (10 ∷ [])
   unfolding refused_line printed_values
-  two-values v u w =
-      same_bytes
-      (ap (λ (a : List ℕ). a ++ (10 ∷ [])) (append_assoc (head_of n) (printed_value v) (printed_value u) ∙ ap (λ (a : List ℕ). head_of n ++ (printed_value v ++ a)) (sym (append-nil (printed_value u)))))
-      w
+  one_value v = ap (λ (a : List ℕ). head_of n ++ a ++ (10 ∷ [])) (append-nil (printed_value v))
+
+  pub two-values : (v u : Value) → refused_line n (v ∷ u ∷ []) ≡ head_of n ++ printed_value v ++ printed_value u ++ (10 ∷ [])
+  unfolding refused_line printed_values
+  two-values v u =
+      ap (λ (a : List ℕ). head_of n ++ (printed_value v ++ a) ++ (10 ∷ [])) (append-nil (printed_value u))
+      ∙ ap (λ (a : List ℕ). a ++ (10 ∷ [])) (sym (append_assoc (head_of n) (printed_value v) (printed_value u)))

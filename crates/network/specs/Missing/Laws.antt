@@ -10,7 +10,7 @@ use Rattle.std.proofs.lemmas.Slice.Zip.{get_or-zip, length-zip}
 use Rattle.real.specs.First.Laws.{position_first, first_same, clear-nowhere, lowest-at, nowhere-clear, at-lowest}
 use Rattle.network.specs.Below.{Below}
 use Rattle.network.specs.Network.{Network, bus_count}
-use Rattle.network.specs.Missing.{bus_missing, end_missing, first_field, row_in, in_column, in_ends, or_next, missing_by, missing_in, MeansIn}
+use Rattle.network.specs.Missing.{bus_missing, end_missing, first_field, missing_at, row_in, in_column, in_ends, or_next, missing_by, missing_in, MeansIn}
 use Rattle.network.specs.Missing.{LowestRow, LowestEnd, SlacksNamed, GeneratorsNamed, BranchesNamed, TripletsNamed, Means}
 use Rattle.network.specs.declared.Naming.{Naming}
 use Rattle.network.specs.declared.Naming.TheVariants.{Slack, Generator, Branch, Triplet}
@@ -172,7 +172,7 @@ module _ (t : Network) (ends : length t.branches.to ≡ length t.branches.from) 
   unfolding missing_in in_column in_ends
   means-missing (Some at) h = go at.table at.row at.field h
     where
-      go : (table : Naming) (i f : ℕ) → MeansIn t table i f → Some (record { table = table; row = i; field = f }) ≡ missing_by n t.slacks.bus t.generators.bus t.branches.from t.branches.to t.triplets.row t.triplets.col
+      go : (table : Naming) (i f : ℕ) → MeansIn t table i f → Some (missing_at table i f) ≡ missing_by n t.slacks.bus t.generators.bus t.branches.from t.branches.to t.triplets.row t.triplets.col
       go Slack i f h = rw (row_at n _ i f h, h.one_field)
       go Generator i f h = rw (no_slack_lem h.0, row_at n _ i f h.1, h.1.one_field)
       go Branch i f h = rw (no_slack_lem h.0.0, no-generator h.0, ends_at n _ _ i f h.1, ends-field n _ _ i f h.1)

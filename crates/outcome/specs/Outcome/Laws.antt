@@ -1,25 +1,22 @@
 -- What the room tells, the columns and the workspace as they are written, and that 01's numbers and values tell the answers apart. Assumes nothing.
-use Rattle.std.specs.Prelude.{ℕ, ◌≤◌, ◌<◌, true, cond, Result, Ok, Err, List, [], ◌∷◌, ◌++◌, take, drop, ◌≡◌, refl, length, get_or, replicate, eqb, Float}
-use Rattle.std.proofs.Common.{sym, ap, ◌∙◌, le_refl, leb-true, ext_get_or}
-use Rattle.std.proofs.lemmas.List.{length-replicate, get_or-replicate}
+use Rattle.std.specs.Prelude.{ℕ, ◌≤◌, true, cond, Result, Ok, Err, List, [], ◌∷◌, ◌++◌, take, drop, ◌≡◌, refl, length, eqb, Float}
+use Rattle.std.proofs.Common.{sym, ap, ◌∙◌, leb-true}
 use Rattle.std.specs.Float.{nan}
 use Rattle.real.specs.Tests.{both_l, both_r}
-use Rattle.real.specs.Literals.{nought}
 use Rattle.real.specs.declared.Value.{Value}
 use Rattle.real.specs.declared.Value.TheVariants.{Whole, Real}
 use Rattle.real.specs.Paper.{place_in, Paper, given, refused}
 use Rattle.network.specs.Network.{Triplets}
 use Rattle.layout.specs.declared.BusKind.{BusKind}
 use Rattle.layout.specs.declared.Point.{Point}
-use Rattle.layout.specs.Table.{stores}
-use Rattle.layout.specs.Table.Laws.{stores-length, stores_at, stored-taken}
+use Rattle.layout.specs.Table.Laws.{stored-taken}
 use Rattle.injections.specs.declared.Injections.{Injections}
 use Rattle.injections.specs.Injections.{injections_of}
 use Rattle.moves.specs.Moves.{letters_of}
 use Rattle.outcome.specs.declared.Solved.{Solved}
 use Rattle.outcome.specs.declared.Refusal.{Refusal}
 use Rattle.outcome.specs.declared.Refusal.TheVariants.{Counts, Room, Slack, Generator, Branch, Triplet, Tap, Ends, NotConverged}
-use Rattle.outcome.specs.Outcome.{paper_of, refusal_paper, Outs, outs, lengths_in, Lengths, OnePerBus, roomy, with_answer, zeros}
+use Rattle.outcome.specs.Outcome.{paper_of, refusal_paper, Outs, outs, lengths_in, Lengths, OnePerBus, roomy, with_answer}
 
 -- ---- the room
 

@@ -5,11 +5,11 @@ use Rattle.report.proofs.put_answer.Goals as goal
 
 pub put_outcome-requires : goal.put_outcome-requires
 put_outcome-requires c =
-    let e = c.in-Read.is in
+    let e = c.in-Ok.is in
     let h = rw e at c.requires.0 in
-    (h.0, h.1, record { vm = omega (arith, h.0, c.in-Read.is); va = search rules; p = search rules; q = search rules; kinds = search rules }, c.requires.1)
+    (h.0, h.1, record { vm = omega (arith, h.0); va = search rules; p = search rules; q = search rules; kinds = search rules }, c.requires.1)
 
-pub returns-in-Read : goal.returns-in-Read
-returns-in-Read c =
+pub returns-in-Ok : goal.returns-in-Ok
+returns-in-Ok c =
     let u = c.put_outcome.ensures in
-    (rw c.in-Read.is u.0, u.1)
+    (rw c.in-Ok.is u.0, u.1)

@@ -2,9 +2,6 @@
 use native.Mathlib.Omega.{arith}
 use Rattle.report.proofs.put_reading.Goals as goal
 
-pub returns-in-Good : goal.returns-in-Good
-returns-in-Good c = (rw c.in-Good.is c.put_bare.ensures.0, omega (arith, c.put_bare.ensures.1))
-
 pub returns-in-Length : goal.returns-in-Length
 returns-in-Length c = (rw c.in-Length.is c.put_one.ensures.0, omega (arith, c.put_one.ensures.1))
 
@@ -24,4 +21,4 @@ pub returns-in-Field : goal.returns-in-Field
 returns-in-Field c = (rw c.in-Field.is c.put_one-in-Field.ensures.0, omega (arith, c.put_one-in-Field.ensures.1))
 
 pub returns-in-Room : goal.returns-in-Room
-returns-in-Room c = (rw c.in-Room.is c.put_bare-in-Room.ensures.0, omega (arith, c.put_bare-in-Room.ensures.1))
+returns-in-Room c = (rw c.in-Room.is c.put_bare.ensures.0, omega (arith, c.put_bare.ensures.1))

@@ -1,5 +1,5 @@
 -- What is printed of each answer, and that the report's contract fixes everything. Assumes nothing.
-use Rattle.std.specs.Prelude.{ℕ, ◌≤◌, ◌≡◌, refl, List, true, ◌⊎◌, leb, length, Float}
+use Rattle.std.specs.Prelude.{ℕ, ◌≤◌, ◌≡◌, refl, List, true, ◌⊎◌, leb, length, Float, Ok, Err}
 use Rattle.std.proofs.Common.{sym, ap, ◌∙◌, inl, inr, ⊎_elim, le-leb}
 use Rattle.real.specs.Tests.{both}
 use Rattle.real.specs.Paper.{Paper, given, refused}
@@ -10,7 +10,6 @@ use Rattle.fields.specs.Before.{allowed_before}
 use Rattle.trailer.specs.Trailer.{trailer_start, edition_of}
 use Rattle.trailer.specs.declared.Edition.TheVariants.{First}
 use Rattle.case_text.specs.declared.Contents.{Contents}
-use Rattle.case_text.specs.declared.Reading.TheVariants as Reading
 use Rattle.case_text.specs.Text.{text_by, text_of}
 use Rattle.case_text.specs.Before.{MovedText}
 use Rattle.case_text.specs.Answer as Reader
@@ -22,6 +21,7 @@ use Rattle.answered.specs.TextAnswer.{TextAnswer, unread, after_first, after_sec
 use Rattle.answered.specs.TextAnswer.Laws.{text_gives, answer-never-7-9, answer-withheld, answer-branches-withheld, text-space, answer-kept, answer-before}
 use Rattle.lines.specs.Lines.{Wrote}
 use Rattle.report.specs.Report.{blanks, Report, printed_of, refusal_of, reported, report_by, report_of, Reported}
+use Rattle.case_text.specs.declared.Refusal.{Refusal}
 
 -- a reader's refusal as it is printed
 pub unread-printed : (p : Paper Contents) (o : Outs) (f : Flows) → printed_of 0 0 (unread p) o f ≡ refusal_of p
@@ -41,7 +41,7 @@ unfolding roomy both
 roomy-blanks w h n few = rw (le-leb n 32 few, h)
 
 pub report-never-7-9 : (s : List ℕ) (w : List Float) → leb 6144 (length w) ≡ true
-    → (report_of s w ≡ reported (text_gives (edition_of s) s blanks w (text_of s))) × (text_of s ≡ Reading.Room → ⊥)
+    → (report_of s w ≡ reported (text_gives (edition_of s) s blanks w (text_of s))) × (text_of s ≡ Err Refusal.Room → ⊥)
 unfolding report_by
 report-never-7-9 s w h = let a = answer-never-7-9 s blanks w (roomy-blanks w h) in (ap reported a.0, a.1)
 
@@ -75,7 +75,7 @@ report-space s w v size = let a = text-space allowed s blanks w v size (edition_
 -- ---- 02, Ask 2, of what is printed
 
 -- a text that 01's digit rule accepted prints the bytes that it printed
-pub report-kept : (s : List ℕ) (c : Contents) → text_by allowed_before First s ≡ Reading.Good c → (w : List Float) → report_of s w ≡ report_by allowed_before First s w
+pub report-kept : (s : List ℕ) (c : Contents) → text_by allowed_before First s ≡ Ok c → (w : List Float) → report_of s w ≡ report_by allowed_before First s w
 unfolding report_by
 report-kept s c h w = ap reported (answer-kept s c h blanks w)
 

@@ -4,19 +4,19 @@ use Rattle.second_answer.proofs.Ways.{second-unread, second-few, second-room, se
 use Rattle.second_answer.proofs.answer_second.Goals as goal
 
 -- ---- the needs
-pub returns-in_default : goal.returns-in_default
-returns-in_default c =
+pub returns-in-Err : goal.returns-in-Err
+returns-in-Err c =
     let r = c.read_branches-read in
-    (rw c.blank-flows.ensures (second-unread _ r.result _ r.ensures c.in_default.not-Good _ _), (omega arith, omega arith))
+    (rw c.blank.ensures (second-unread _ r.result _ r.ensures _ c.in-Err.is _ _), (omega arith, omega arith))
 
 pub solve_branch_rows-found-requires : goal.solve_branch_rows-found-requires
 solve_branch_rows-found-requires c =
     let r = c.read_branches-read in
-    second-room _ r.result _ r.ensures _ c.in-Good.is
+    second-room _ r.result _ r.ensures _ c.in-Ok.is
 
 pub returns : goal.returns
 returns c =
     let r = c.read_branches-read in
-    let e = c.in-Good.is in
+    let e = c.in-Ok.is in
     let f = c.solve_branch_rows-found.result in
     (second-read _ r.result _ r.ensures _ e _ _ f.outcome _ f.flows _ c.solve_branch_rows-found.ensures, second-few _ r.result _ r.ensures _ e f.outcome)

@@ -1,6 +1,5 @@
 -- `tables::check` meets its contract: each way out with the checks before it. Assumes nothing.
-use mathlib.Core.Path.{sym, ap, ◌∙◌}
-use Rattle.network.specs.Missing.{missing_in}
+use Rattle.std.proofs.Common.{sym, ap, ◌∙◌}
 use Rattle.network.specs.Checks.Laws.{counted_branches_lem, counted-triplets}
 use Rattle.outcome.specs.Outcome.{bus_refusal}
 use Rattle.tables.specs.Tables.Laws.{check-counts, check-room, check-buses}
@@ -19,7 +18,6 @@ missing_bus-requires c =
     ((counted_branches_lem _ h).to, (counted-triplets _ h).col)
 
 pub returns : goal.returns
-unfolding missing_in
 returns c =
     c.bus_refusal.ensures ∙ ap bus_refusal c.missing_bus.ensures
     ∙ check-buses _ _ _ (sym c.counted.ensures ∙ c.if-not-counted.false) (sym c.roomy.ensures ∙ c.if-not-roomy.false)

@@ -1,12 +1,12 @@
 -- Demand 3, of the public call: tables that differ only in 01's "Withheld columns", solved with the same lent buffers, give the same answer, columns and
 -- workspace, refusals included. Assumes nothing.
-use Rattle.std.specs.Prelude.{◌≤◌, List, ◌≡◌, leb, eqb, Float}
+use Rattle.std.specs.Prelude.{◌≤◌, List, ◌≡◌, leb, Float, Result, Ok, Err, [], ◌∷◌}
 use Rattle.std.proofs.Math.Path.{refl, ap}
 use Rattle.std.proofs.Common.{◌∙◌}
 use Rattle.std.proofs.Math.ListN.{length}
 use Rattle.real.specs.Tests.{both}
 use Rattle.network.specs.Network.{Network, bus_count}
-use Rattle.network.specs.Checks.{same7, slacks_counted, branches_counted, triplets_counted, counted}
+use Rattle.network.specs.Checks.{same, slacks_counted, branches_counted, triplets_counted, counted}
 use Rattle.network.specs.Missing.{missing_by, missing_in}
 use Rattle.network.specs.Checks.Laws.{buses-few}
 use Rattle.starts.specs.declared.AcStart.{AcStart}
@@ -16,7 +16,7 @@ use Rattle.pf_ac.specs.WithStart.Withheld.{Alike, withheld}
 use Rattle.outcome.specs.Outcome.{ok, Outs, lengths_in, with_answer}
 use Rattle.tables.specs.Tables.{checked_of, Ran, ran, ran_of, run_of, answer, after_run, after_check, solve_of}
 use Rattle.tables.specs.Tables.Laws.{met}
-use Rattle.outcome.specs.declared.Checked.{Checked}
+use Rattle.outcome.specs.declared.Refusal.{Refusal}
 
 module _ (start : AcStart) (t u : Network) (a : Alike start t u) (o : Outs) (w : List Float) where
   -- the checks read lengths, and whole columns that agree
@@ -27,9 +27,9 @@ module _ (start : AcStart) (t u : Network) (a : Alike start t u) (o : Outs) (w :
       let g = a.generators in
       let n = length (b.kind i) in
       let m = length (g.bus i) in
-      both (both (leb n 32) (same7 n (length (b.vm_set i)) (b.pd.size i) (b.qd.size i) (b.pg.size i) (b.qg.size i) (b.vm_case.size i) (b.va_case.size i)))
+      both (both (leb n 32) (same n (length (b.vm_set i) ∷ b.pd.size i ∷ b.qd.size i ∷ b.pg.size i ∷ b.qg.size i ∷ b.vm_case.size i ∷ b.va_case.size i ∷ [])))
       (both (slacks_counted (a.slacks i))
-      (both (both (leb m 32) (both (eqb (g.qmin.size i) m) (eqb (g.qmax.size i) m)))
+      (both (both (leb m 32) (same m (g.qmin.size i ∷ g.qmax.size i ∷ [])))
       (both (branches_counted (a.branches i)) (triplets_counted (a.triplets i)))))
 
   buses-same : bus_count t ≡ bus_count u
@@ -61,6 +61,6 @@ module _ (start : AcStart) (t u : Network) (a : Alike start t u) (o : Outs) (w :
   unfolding solve_of
   solve-withheld = go (checked_of t (lengths_in o) (length w)) refl ∙ ap (after_check start u o w) checked-same
     where
-      go : (c : Checked) → c ≡ checked_of t (lengths_in o) (length w) → after_check start t o w c ≡ after_check start u o w c
-      go Checked.Ready e = ready-same (buses-few t (met t (lengths_in o) (length w) e).is_counted)
-      go (Checked.Refused r) e = refl
+      go : (c : Result (Unit {0}) Refusal) → c ≡ checked_of t (lengths_in o) (length w) → after_check start t o w c ≡ after_check start u o w c
+      go (Ok x) e = ready-same (buses-few t (met t (lengths_in o) (length w) e).is_counted)
+      go (Err r) e = refl
