@@ -1,9 +1,9 @@
 -- 01, "Limits": what becomes of one bus in a round, and of all of them. Every bus is tested against the figures that Newton's end gives.
 pub mod Laws
-use Rattle.std.specs.Prelude.{ℕ, Bool, true, false, cond, List, get_or, Option, None, Some, Float}
+use Rattle.std.specs.Prelude.{ℕ, Bool, true, false, cond, List, take, get_or, Option, None, Some, Float}
 use Rattle.std.specs.Float.{nan, binary64}
 use Rattle.std.specs.Float.Ieee.{add, sub, lt}
-use Rattle.real.specs.Any.{any_below}
+use Rattle.std.specs.List.{list_any}
 use Rattle.real.specs.Literals.{nought, margin}
 use Rattle.layout.specs.declared.BusKind.{BusKind}
 use Rattle.layout.specs.declared.BusKind.TheVariants.{Slack, Pv, Pq}
@@ -99,10 +99,10 @@ moves_of n kinds l t qd q vm hold = table n Keep (move_at kinds l t qd q vm hold
 
 -- whether any of the n buses has a generator, and whether any moves
 abbrev pub any_generator : ℕ → List Bool → Bool
-any_generator n has = any_below n (λ b. get_or has b false)
+any_generator n has = list_any (λ h. h) (take n has)
 
 abbrev pub any_move : ℕ → List Move → Bool
-any_move n ms = any_below n (λ b. is_move (get_or ms b Keep))
+any_move n ms = list_any is_move (take n ms)
 
 unfoldable pub kinds_after : ℕ → List BusKind → List Move → List BusKind
 kinds_after n kinds ms = stores (λ b. kind_after (get_or ms b Keep) (kind_of kinds b)) n kinds

@@ -187,11 +187,7 @@ pub fn any_move(n: usize, ms: [Move; 32]) -> bool
     requires { n ≤ 32 }
     ensures { result ≡ any_move n ms }
 {
-    let mut any = false;
-    for &m in &ms[..n] {
-        any |= m != Move::Keep;
-    }
-    any
+    ms[..n].iter().any(|&m| m != Move::Keep)
 }
 
 pub fn kinds_after(n: usize, kinds: [BusKind; 32], ms: [Move; 32]) -> [BusKind; 32]
@@ -271,5 +267,5 @@ pub fn any_generator(n: usize, has_gen: [bool; 32]) -> bool
     requires { n ≤ 32 }
     ensures { result ≡ any_generator n has_gen }
 {
-    has_gen[..n].contains(&true)
+    has_gen[..n].iter().any(|&has| has)
 }

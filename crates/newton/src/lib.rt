@@ -108,7 +108,6 @@ fn measure(g: &NewtonProblem, p: Point) -> Measured
     ensures { result ≡ measured_of (problem_in g.now) p }
 {
     let found = injections::ac_injections(g.layout.n, g.y, p);
-    let phasors = found.phasors;
     let qg = g.qg;
     let p = found.power.p;
     let q = found.power.q;
@@ -123,7 +122,7 @@ fn measure(g: &NewtonProblem, p: Point) -> Measured
     let r = g.layout.residual(&w);
     let residual = real::inf_norm(g.layout.dim, &r);
     Measured {
-        phasors,
+        phasors: found.phasors,
         r,
         residual,
     }
@@ -175,7 +174,7 @@ fn search(g: &NewtonProblem, p: Point, m: Measured, w: &[f64]) -> Option<Trial>
     ensures { result ≡ tries_from 12 (measured_of (problem_in g.now)) g.now.layout p m w.now one }
 {
     let mut alpha = 1.0;
-    for k in 0usize..12 {
+    for _ in 0usize..12 {
         let t = attempt(g, p, m, w, alpha);
         if t.is_some() {
             return t;
@@ -202,10 +201,9 @@ impl Ended {
     fn at(point: Point, iterations: usize, m: Measured, ending: Ending) -> Ended
         ensures { result ≡ ended point iterations m ending }
     {
-        let phasors = m.phasors;
         Ended {
             point,
-            phasors,
+            phasors: m.phasors,
             iterations,
             residual: m.residual,
             ending,

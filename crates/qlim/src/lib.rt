@@ -111,7 +111,7 @@ pub fn solve_qlim(s: &QlimStudy, default: [BusKind; 32], start: Point, w: &mut [
         reverted: [false; 32],
     };
     let mut p = moves::pin(s.n, default, s.hold, start);
-    for round in 0usize..11 {
+    for _ in 0usize..11 {
         let e = steps(s, kinds, t, p, w);
         let Some(ms) = moves_after(s, kinds, t, e) else {
             return settle(s.n, kinds, t.qsched, e, e.residual);

@@ -12,6 +12,3 @@ use Rattle.layout.proofs.aggregate_q.Given as goal
 abbrev pub invariant-loop-g : goal.invariant-loop-g
 invariant-loop-g l = (l.g ≤ l.g-end) × (l.g-end ≡ length l.gens.bus.now) × (l.qmin ≡ table 32 nought (sum_at l.g l.gens.bus.now l.gens.qmin.now)) × (l.qmax ≡ table 32 nought (sum_at l.g l.gens.bus.now l.gens.qmax.now))
     × (l.has_gen ≡ table 32 false (listed l.g l.gens.bus.now))
-
-abbrev pub decreases-loop-g : goal.decreases-loop-g
-decreases-loop-g l = l.g-end - l.g

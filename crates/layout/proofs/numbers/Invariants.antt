@@ -7,6 +7,3 @@ use Rattle.layout.proofs.numbers.Given as goal
 
 abbrev pub invariant-loop-b : goal.invariant-loop-b
 invariant-loop-b l = Stored (number_at l.u l.kinds l.first) (replicate 32 none) l.n l.b l.of × Counted (count_to l.u l.kinds l.first) l.n l.b l.col × (l.col ≤ l.first + l.b)
-
-abbrev pub decreases-loop-b : goal.decreases-loop-b
-decreases-loop-b l = l.n - l.b

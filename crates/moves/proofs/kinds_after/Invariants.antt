@@ -9,6 +9,3 @@ use Rattle.moves.proofs.kinds_after.Given as goal
 
 abbrev pub invariant-loop-b : goal.invariant-loop-b
 invariant-loop-b l = Stored (λ i. kind_after (get_or l.ms i Keep) (kind_of l.kinds i)) l.kinds l.n l.b l.next
-
-abbrev pub decreases-loop-b : goal.decreases-loop-b
-decreases-loop-b l = l.n - l.b

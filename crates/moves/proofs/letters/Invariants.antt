@@ -8,6 +8,3 @@ use Rattle.moves.proofs.letters.Given as goal
 
 abbrev pub invariant-loop-b : goal.invariant-loop-b
 invariant-loop-b l = Stored (λ i. kind_letter (kind_of l.kinds i)) (replicate 32 0) l.n l.b l.ls
-
-abbrev pub decreases-loop-b : goal.decreases-loop-b
-decreases-loop-b l = l.n - l.b

@@ -8,6 +8,3 @@ use Rattle.moves.proofs.moves.Given as goal
 
 abbrev pub invariant-loop-b : goal.invariant-loop-b
 invariant-loop-b l = Stored (move_at l.kinds l.limits l.t l.qd l.q_calc l.vm l.vm_hold) (replicate 32 Keep) l.n l.b l.ms
-
-abbrev pub decreases-loop-b : goal.decreases-loop-b
-decreases-loop-b l = l.n - l.b

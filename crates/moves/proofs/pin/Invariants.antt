@@ -6,6 +6,3 @@ use Rattle.moves.proofs.pin.Given as goal
 
 abbrev pub invariant-loop-b : goal.invariant-loop-b
 invariant-loop-b l = Counted (λ i. pin_to i l.kinds l.vm_hold l.p) l.n l.b l.t
-
-abbrev pub decreases-loop-b : goal.decreases-loop-b
-decreases-loop-b l = l.n - l.b

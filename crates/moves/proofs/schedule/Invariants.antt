@@ -10,6 +10,3 @@ use Rattle.moves.proofs.schedule.Given as goal
 
 abbrev pub invariant-loop-b : goal.invariant-loop-b
 invariant-loop-b l = Stored (λ i. sched_at (kind_of l.kinds i) (get_or l.qsched i nan)) (replicate 32 nought) l.n l.b l.t
-
-abbrev pub decreases-loop-b : goal.decreases-loop-b
-decreases-loop-b l = l.n - l.b

@@ -6,6 +6,3 @@ use Rattle.moves.proofs.track_after.Given as goal
 
 abbrev pub invariant-loop-b : goal.invariant-loop-b
 invariant-loop-b l = Counted (λ i. track_to i l.t l.limits l.qg l.ms) l.n l.b l.next
-
-abbrev pub decreases-loop-b : goal.decreases-loop-b
-decreases-loop-b l = l.n - l.b

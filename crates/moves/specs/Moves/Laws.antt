@@ -1,12 +1,12 @@
 -- Without a generator no bus moves. Demand 3 at one bus: two studies that differ only in figures withheld there move it alike, and go on differing only there.
 -- Assumes nothing.
-use Rattle.std.specs.Prelude.{ℕ, Bool, false, cond, List, ◌⊎◌, Option, None, ◌≡◌, get_or, replicate, Float}
+use Rattle.std.specs.Prelude.{Bool, false, cond, take, ◌⊎◌, Option, None, ◌≡◌, get_or, replicate, Float}
 use Rattle.std.proofs.Math.Bool.{true}
-use Rattle.std.proofs.Common.{inl, inr, sym, ◌∙◌}
+use Rattle.std.proofs.Common.{inl, inr, sym, ◌∙◌, ℕ, zero, suc, ◌<◌, [], ◌∷◌, List, not-suc-le-zero, le_of_suc-le-suc}
 use Rattle.std.proofs.Math.Path.{refl}
 use Rattle.std.specs.Float.Ieee.{binary64, add, sub, lt}
-use Rattle.real.specs.Tests.{no-case}
-use Rattle.real.specs.Any.Laws.{none_below}
+use Rattle.real.specs.Tests.{no-case, nor-left, nor-right}
+use Rattle.std.specs.List.{list_any}
 use Rattle.real.specs.Literals.{margin}
 use Rattle.layout.specs.declared.BusKind.{BusKind}
 use Rattle.layout.specs.declared.BusKind.TheVariants.{Slack, Pv, Pq}
@@ -21,11 +21,17 @@ use Rattle.moves.specs.Moves.{could_hold, move_pv, move_pq, move_of, move_at, mo
 
 -- ---- without a generator
 
+none_taken : (n : ℕ) (l : List Bool) → list_any (λ h. h) (take n l) ≡ false → (b : ℕ) → b < n → get_or l b false ≡ false
+none_taken zero l e b p = absurd (not-suc-le-zero p)
+none_taken (suc n) [] e b p = refl
+none_taken (suc n) (h ∷ t) e zero p = nor-left h _ e
+none_taken (suc n) (h ∷ t) e (suc b) p = none_taken n t (nor-right h _ e) b (le_of_suc-le-suc p)
+
 pub no_move : (n : ℕ) (kinds : List BusKind) (l : Limits) (t : Track) (qd q vm hold : List Float) → any_generator n l.has_gen ≡ false
     → replicate 32 Keep ≡ moves_of n kinds l t qd q vm hold
 unfolding moves_of move_of
 no_move n kinds l t qd q vm hold e =
-    sym (stores-ext (move_at kinds l t qd q vm hold) (λ b. Keep) n (replicate 32 Keep) (λ i p. rw (none_below n (λ b. get_or l.has_gen b false) e i p)) ∙ table_same n Keep)
+    sym (stores-ext (move_at kinds l t qd q vm hold) (λ b. Keep) n (replicate 32 Keep) (λ i p. rw (none_taken n l.has_gen e i p)) ∙ table_same n Keep)
 
 -- ---- how a bus stands
 

@@ -9,6 +9,3 @@ use Rattle.newton.proofs.newton.Given as goal
 abbrev pub invariant-loop-it : goal.invariant-loop-it
 invariant-loop-it l = (l.it ≤ 50) × (length l.w ≡ length l.initial.w)
     × (steps_from (50 - l.it) l.it (measured_of (problem_in l.g)) (triplets_in l.g.y) l.g.layout l.p l.m l.w ≡ newton_of (problem_in l.g) l.initial.p l.initial.w)
-
-abbrev pub decreases-loop-it : goal.decreases-loop-it
-decreases-loop-it l = 50 - l.it

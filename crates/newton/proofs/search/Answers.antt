@@ -4,18 +4,18 @@ use Rattle.std.proofs.Common.{sym, ◌∙◌, arith, rules}
 use Rattle.newton.specs.Newton.Laws.{fuel, tries-hit, tries-miss, tries-none}
 use Rattle.newton.proofs.search.Goals as goal
 
-pub loop-k-init : goal.loop-k-init
-loop-k-init c = search rules
+pub loop-init : goal.loop-init
+loop-init c = search rules
 
 pub returns-then-is_some : goal.returns-then-is_some
 returns-then-is_some c =
-    sym (tries-hit _ _ _ _ _ _ _ _ c.attempt-t.ensures (sym c.is_some.ensures ∙ c.if-is_some.true)) ∙ (rw (fuel 12 _ c.loop-k-test.true) at c.loop-k.invariant.1)
+    sym (tries-hit _ _ _ _ _ _ _ _ c.attempt-t.ensures (sym c.is_some.ensures ∙ c.if-is_some.true)) ∙ (rw (fuel 12 _ c.loop-test.true) at c.loop.invariant.1)
 
-pub loop-k-preserved : goal.loop-k-preserved
-loop-k-preserved c = (
+pub loop-preserved : goal.loop-preserved
+loop-preserved c = (
   omega arith,
-  sym (tries-miss _ _ _ _ _ _ _ _ c.attempt-t.ensures (sym c.is_some.ensures ∙ c.if-is_some.false)) ∙ (rw (fuel 12 _ c.loop-k-test.true) at c.loop-k.invariant.1),
+  sym (tries-miss _ _ _ _ _ _ _ _ c.attempt-t.ensures (sym c.is_some.ensures ∙ c.if-is_some.false)) ∙ (rw (fuel 12 _ c.loop-test.true) at c.loop.invariant.1),
 )
 
 pub returns : goal.returns
-returns c = let e : c.loop-k.k ≡ 12 = omega arith in tries-none _ _ _ _ _ _ ∙ (rw e at c.loop-k.invariant.1)
+returns c = let e : c.loop.counter ≡ 12 = omega arith in tries-none _ _ _ _ _ _ ∙ (rw e at c.loop.invariant.1)

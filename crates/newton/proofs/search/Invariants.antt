@@ -5,10 +5,7 @@ use Rattle.real.specs.Literals.{one}
 use Rattle.newton.specs.Newton.{problem_in, measured_of, tries_from}
 use Rattle.newton.proofs.search.Given as goal
 
-abbrev pub invariant-loop-k : goal.invariant-loop-k
-invariant-loop-k l = (l.k ≤ 12)
-    × (tries_from (12 - l.k) (measured_of (problem_in l.g)) l.g.layout l.p l.m l.w l.alpha
+abbrev pub invariant-loop : goal.invariant-loop
+invariant-loop l = (l.counter ≤ 12)
+    × (tries_from (12 - l.counter) (measured_of (problem_in l.g)) l.g.layout l.p l.m l.w l.alpha
     ≡ tries_from 12 (measured_of (problem_in l.g)) l.g.layout l.p l.m l.w one)
-
-abbrev pub decreases-loop-k : goal.decreases-loop-k
-decreases-loop-k l = 12 - l.k

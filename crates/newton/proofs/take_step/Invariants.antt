@@ -7,6 +7,3 @@ use Rattle.newton.proofs.take_step.Given as goal
 
 abbrev pub invariant-loop-b : goal.invariant-loop-b
 invariant-loop-b l = (l.b ≤ l.layout.n) × (l.t ≡ step_to l.b (va_col l.layout) (vm_col l.layout) l.p l.w l.alpha)
-
-abbrev pub decreases-loop-b : goal.decreases-loop-b
-decreases-loop-b l = l.layout.n - l.b

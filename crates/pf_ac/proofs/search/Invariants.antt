@@ -9,6 +9,3 @@ use Rattle.pf_ac.proofs.search.Given as goal
 abbrev pub invariant-loop-i : goal.invariant-loop-i
 invariant-loop-i l = (1 ≤ l.i) × (length l.w ≡ length l.initial.w)
     × (search_from (l.count - l.i) l.i l.start (study_in l.s) l.kinds l.first l.flat l.best l.w ≡ search_of l.start (study_in l.s) l.kinds l.first l.flat l.fn.w)
-
-abbrev pub decreases-loop-i : goal.decreases-loop-i
-decreases-loop-i l = l.count - l.i

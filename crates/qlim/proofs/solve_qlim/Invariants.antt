@@ -5,6 +5,6 @@ use lib.ListN.{length}
 use Rattle.qlim.specs.Rounds.{study_in, rounds_from}
 use Rattle.qlim.proofs.solve_qlim.Given as goal
 
-abbrev pub invariant-loop-round : goal.invariant-loop-round
-invariant-loop-round l = (l.round ≤ 11) × (length l.w ≡ length l.initial.w)
-    × (rounds_from (11 - l.round) (study_in l.s) l.kinds l.t l.p l.w ≡ rounds_from 11 (study_in l.s) l.initial.kinds l.initial.t l.initial.p l.initial.w)
+abbrev pub invariant-loop : goal.invariant-loop
+invariant-loop l = (l.counter ≤ 11) × (length l.w ≡ length l.initial.w)
+    × (rounds_from (11 - l.counter) (study_in l.s) l.kinds l.t l.p l.w ≡ rounds_from 11 (study_in l.s) l.initial.kinds l.initial.t l.initial.p l.initial.w)

@@ -11,6 +11,3 @@ use Rattle.starts.proofs.by_island.Given as goal
 abbrev pub invariant-loop-i : goal.invariant-loop-i
 invariant-loop-i l = (l.i ≤ l.i-end) × (l.i-end ≡ length l.slacks.bus.now) × (l.slack ≡ table 32 None (slack_of l.i l.slacks.bus.now (λ b. get_or l.labels b 0)))
     × (l.va ≡ table 32 nought (angle_of l.i l.slacks.bus.now l.slacks.angle.now (λ b. get_or l.labels b 0)))
-
-abbrev pub decreases-loop-i : goal.decreases-loop-i
-decreases-loop-i l = l.i-end - l.i

@@ -8,6 +8,3 @@ use Rattle.starts.proofs.case_start.Given as goal
 
 abbrev pub invariant-loop-b : goal.invariant-loop-b
 invariant-loop-b l = Stored (case_vm l.buses.vm_set.now l.buses.vm_case.now) (replicate 32 nought) l.n l.b l.vm × Stored (case_va l.buses.va_case.now l.r) (replicate 32 nought) l.n l.b l.va
-
-abbrev pub decreases-loop-b : goal.decreases-loop-b
-decreases-loop-b l = l.n - l.b

@@ -9,6 +9,3 @@ use Rattle.starts.proofs.island_references.Given as goal
 
 abbrev pub invariant-loop-b : goal.invariant-loop-b
 invariant-loop-b l = (l.b ≤ l.n) × (l.slack ≡ table l.b None (slack_for l.slacks.bus.now l.branches.from.now l.branches.to.now)) × (l.va ≡ table l.b nought (reference_for l.slacks.bus.now l.slacks.angle.now l.branches.from.now l.branches.to.now))
-
-abbrev pub decreases-loop-b : goal.decreases-loop-b
-decreases-loop-b l = l.n - l.b

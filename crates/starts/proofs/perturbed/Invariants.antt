@@ -11,6 +11,3 @@ use Rattle.starts.proofs.perturbed.Given as goal
 abbrev pub invariant-loop-b : goal.invariant-loop-b
 invariant-loop-b l = Stored (λ i. scaled (kind_of l.kinds i) (get_or l.flat.vm i nan) i l.r) (replicate 32 nought) l.n l.b l.vm
     × Stored (λ i. nudged (kind_of l.kinds i) (get_or l.flat.va i nan) i l.r) (replicate 32 nought) l.n l.b l.va
-
-abbrev pub decreases-loop-b : goal.decreases-loop-b
-decreases-loop-b l = l.n - l.b

@@ -7,6 +7,3 @@ use Rattle.layout.proofs.AcPfLayout.residual.Given as goal
 
 abbrev pub invariant-loop-b : goal.invariant-loop-b
 invariant-loop-b l = Counted (λ i. residual_to i (p_row l.self) (q_row l.self) (powers_in l.w)) l.self.n l.b l.r
-
-abbrev pub decreases-loop-b : goal.decreases-loop-b
-decreases-loop-b l = l.self.n - l.b
