@@ -42,7 +42,11 @@ refusal_paper (Tap row) = refused 14 (Whole row ∷ [])
 refusal_paper (Ends row) = refused 15 (Whole row ∷ [])
 refusal_paper (NotConverged mismatch starts) = refused 10 (Real mismatch ∷ Whole starts ∷ [])
 
-abbrev pub paper_of : Result Solved Refusal → Paper (ℕ × Float)
+-- solved, or a refusal
+abbrev pub Outcome : Type 0
+Outcome = Result Solved Refusal
+
+abbrev pub paper_of : Outcome → Paper (ℕ × Float)
 paper_of (Ok s) = ok s.iterations s.residual
 paper_of (Err r) = refusal_paper r
 
