@@ -3,7 +3,7 @@ pub mod Laws
 use Rattle.std.specs.Prelude.{ℕ, ◌+◌, ◌≤◌, ◌≡◌, List, length}
 use Rattle.lines.specs.Lines.{Wrote}
 use Rattle.lines.specs.declared.Printer.{Printer}
-use Rattle.lines.specs.declared.BusFigures.{BusFigures}
+use Rattle.outcome.specs.declared.AnswerColumns.{AnswerColumns}
 
 -- there is room for n more bytes
 abbrev pub HasRoom : Printer → ℕ → Type 0
@@ -17,7 +17,7 @@ pub record Printed (bytes : List ℕ) (most : ℕ) (old new : Printer) : Type 0 
   pub long : length new.out.now ≡ length old.out.now
 
 -- at least one place per bus in each column
-pub record OnePerBus (n : ℕ) (b : BusFigures) : Type 0 where
+pub record OnePerBus (n : ℕ) (b : AnswerColumns) : Type 0 where
   pub kinds : n ≤ length b.kinds.now
   pub vm : n ≤ length b.vm.now
   pub va : n ≤ length b.va.now

@@ -7,6 +7,7 @@ ghost use Rattle.lines.specs.Lines.{printed_decimal, printed_real, printed_value
 ghost use Rattle.lines.specs.Printer.{HasRoom, Printed, OnePerBus};
 
 use flows::{Flow, Flows};
+use outcome::AnswerColumns;
 use real::Value;
 
 // A lent buffer, and the place from which it is written on.
@@ -24,16 +25,6 @@ pub struct BusFigure {
     pub va: f64,
     pub p: f64,
     pub q: f64,
-}
-
-// The same of all buses, in columns lent for reading.
-#[derive(Clone, Copy)]
-pub struct BusFigures<'a> {
-    pub kinds: &'a [u8],
-    pub vm: &'a [f64],
-    pub va: &'a [f64],
-    pub p: &'a [f64],
-    pub q: &'a [f64],
 }
 
 impl Printer<'_> {
@@ -142,7 +133,7 @@ impl Printer<'_> {
     }
 
     // The lines of the first n buses.
-    pub fn put_buses(&mut self, n: usize, buses: BusFigures)
+    pub fn put_buses(&mut self, n: usize, buses: AnswerColumns)
         requires { OnePerBus n buses × HasRoom self.old (91 * n) }
         ensures { let b = buses.entry in
             Printed (bus_lines n b.vm.now b.va.now b.p.now b.q.now b.kinds.now) (91 * n) self.old self.new }

@@ -1,6 +1,6 @@
 -- 01, "One listing in full": what the solve program prints of a text, and what it leaves in the workspace. It is the answer of the text, printed.
 pub mod Laws
-use Rattle.std.specs.Prelude.{ℕ, ◌≡◌, List, [], ◌++◌, replicate, Float}
+use Rattle.std.specs.Prelude.{ℕ, ◌≤◌, ◌≡◌, List, [], ◌++◌, replicate, Float}
 use Rattle.real.specs.Paper.{Paper, given, refused}
 use Rattle.real.specs.Literals.{nought}
 use Rattle.fields.specs.Real.{DigitRule, allowed}
@@ -11,6 +11,8 @@ use Rattle.outcome.specs.Outcome.{Outs, outs}
 use Rattle.answered.specs.TextAnswer.{TextAnswer, text_answer_by}
 use Rattle.flows.specs.declared.Flows.{Flows}
 use Rattle.lines.specs.Lines.{ok_line, bus_lines, branch_lines, refused_line, Wrote}
+use Rattle.lines.specs.Printer.{OnePerBus}
+use Rattle.report.specs.declared.Figures.{Figures}
 
 -- the buffer that a report is written into
 abbrev pub buffer_size : ℕ
@@ -30,10 +32,21 @@ printed_of n m (given found) o f =
     ok_line found.0 found.1 ++ bus_lines n o.vm o.va o.p o.q o.kinds ++ branch_lines m f.pf f.qf f.pt f.qt f.loss
 printed_of n m (refused number values) o f = refused_line number values
 
+-- of tables that the solve refuses
+abbrev pub refused_of : Paper (ℕ × Float) → List ℕ
+refused_of (given found) = []
+refused_of (refused number values) = refused_line number values
+
 -- of a text that the reader refuses; a good reading is no refusal, and 9 stands in for one
 abbrev pub refusal_of : Paper Contents → List ℕ
 refusal_of (given c) = refused_line 9 []
 refusal_of (refused number values) = refused_line number values
+
+-- as many buses and branches as a text may have, and a figure of each bus
+pub record FewFigures (f : Figures) : Type 0 where
+  pub buses : f.n ≤ 32
+  pub branches : f.m ≤ 64
+  pub figures : OnePerBus f.n f.buses
 
 -- an answer, printed
 abbrev pub reported : TextAnswer → Report

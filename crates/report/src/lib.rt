@@ -4,132 +4,117 @@
 ghost use Rattle.std.specs.Prelude.{◌≤◌, length, Err};
 ghost use Rattle.io.specs.Counts.{IsPrefixLen};
 ghost use Rattle.case_text.specs.Answer as Reader;
-ghost use Rattle.outcome.specs.Outcome.{outs, lengths_in, OnePerBus, ok, paper_of};
+ghost use Rattle.outcome.specs.Outcome.{ok, paper_of, refusal_paper, outs_in};
 ghost use Rattle.answered.specs.TextAnswer.{buses_in, branches_in, paper_in, Few};
 ghost use Rattle.lines.specs.Lines.{Wrote};
-ghost use Rattle.report.specs.Report.{buffer_size, printed_of, refusal_of, report_of, Reported};
+ghost use Rattle.lines.specs.Printer.{HasRoom, Printed, OnePerBus};
+ghost use Rattle.report.specs.Report.{buffer_size, printed_of, refusal_of, refused_of, report_of, FewFigures, Reported};
 
 use answered::Read;
-use case_text::Refusal;
 use flows::Flows;
-use outcome::Outcome;
+use lines::Printer;
+use outcome::{AnswerColumns, AnswerColumnsMut, Solved};
 use real::Value;
 
 // The buffer's bytes: enough for the longest report.
 pub const BUFFER: usize = 10240;
 
+// What is printed of a solved case: the figures of its n buses, and the flows of m branches.
+#[derive(Clone, Copy)]
+struct Figures<'a> {
+    n: usize,
+    m: usize,
+    buses: AnswerColumns<'a>,
+    flows: &'a Flows,
+}
+
 // What is printed of a text that the reader refuses.
-fn put_reading(r: Refusal, out: &mut [u8]) -> usize
-    requires { buffer_size ≤ length out.old }
-    ensures { Wrote out.old 0 (refusal_of (Reader.paper_of (Err r))) result out.new × (result ≤ buffer_size) }
+fn put_unread(r: case_text::Refusal, printer: &mut Printer)
+    requires { HasRoom printer.old buffer_size }
+    ensures { Printed (refusal_of (Reader.paper_of (Err r))) buffer_size printer.old printer.new }
 {
     match r {
-        Refusal::Length(at) => lines::put_one(1, Value::Whole(at), out),
-        Refusal::Trailer(at) => lines::put_one(2, Value::Whole(at), out),
-        Refusal::Byte(at) => lines::put_one(3, Value::Whole(at), out),
-        Refusal::Rows(at) => lines::put_one(6, Value::Whole(at), out),
-        Refusal::Form(at) => lines::put_one(4, Value::Whole(at), out),
-        Refusal::Field(at) => lines::put_one(5, Value::Whole(at), out),
-        Refusal::Room => lines::put_bare(9, out),
+        case_text::Refusal::Length(at) => printer.put_refused(1, &[Value::Whole(at)]),
+        case_text::Refusal::Trailer(at) => printer.put_refused(2, &[Value::Whole(at)]),
+        case_text::Refusal::Byte(at) => printer.put_refused(3, &[Value::Whole(at)]),
+        case_text::Refusal::Rows(at) => printer.put_refused(6, &[Value::Whole(at)]),
+        case_text::Refusal::Form(at) => printer.put_refused(4, &[Value::Whole(at)]),
+        case_text::Refusal::Field(at) => printer.put_refused(5, &[Value::Whole(at)]),
+        case_text::Refusal::Room => printer.put_refused(9, &[]),
     }
 }
 
-// What is printed of a solved case of n buses that tells the flows of m branches.
-fn put_solved(
-    iterations: usize,
-    residual: f64,
-    n: usize,
-    m: usize,
-    vm: &[f64],
-    va: &[f64],
-    p: &[f64],
-    q: &[f64],
-    kinds: &[u8],
-    f: Flows,
-    out: &mut [u8],
-) -> usize
-    requires { let o = outs vm.now va.now p.now q.now kinds.now in (n ≤ 32) × (m ≤ 64) × OnePerBus n (lengths_in o) × (buffer_size ≤ length out.old) }
-    ensures { let o = outs vm.now va.now p.now q.now kinds.now in
-        Wrote out.old 0 (printed_of n m (ok iterations residual) o f) result out.new × (result ≤ buffer_size) }
-{
-    let pf = f.pf;
-    let qf = f.qf;
-    let pt = f.pt;
-    let qt = f.qt;
-    let loss = f.loss;
-    let a = lines::put_ok(iterations, residual, out);
-    let b = lines::put_buses(n, vm, va, p, q, kinds, a, out);
-    lines::put_branches(m, pf, qf, pt, qt, loss, b, out)
-}
-
-// What is printed of a solve of n buses that tells the flows of m branches.
-fn put_outcome(
-    r: Outcome,
-    n: usize,
-    m: usize,
-    vm: &[f64],
-    va: &[f64],
-    p: &[f64],
-    q: &[f64],
-    kinds: &[u8],
-    f: Flows,
-    out: &mut [u8],
-) -> usize
-    requires { let o = outs vm.now va.now p.now q.now kinds.now in (n ≤ 32) × (m ≤ 64) × OnePerBus n (lengths_in o) × (buffer_size ≤ length out.old) }
-    ensures { let o = outs vm.now va.now p.now q.now kinds.now in
-        Wrote out.old 0 (printed_of n m (paper_of r) o f) result out.new × (result ≤ buffer_size) }
+// What is printed of tables that the solve refuses.
+fn put_unsolved(r: outcome::Refusal, printer: &mut Printer)
+    requires { HasRoom printer.old buffer_size }
+    ensures { Printed (refused_of (refusal_paper r)) buffer_size printer.old printer.new }
 {
     match r {
-        Outcome::Solved {
-            iterations,
-            residual,
-        } => put_solved(iterations, residual, n, m, vm, va, p, q, kinds, f, out),
-        Outcome::Counts => lines::put_bare(7, out),
-        Outcome::Room => lines::put_bare(9, out),
-        Outcome::Slack { row } => lines::put_one(8, Value::Whole(row), out),
-        Outcome::Generator { row } => lines::put_one(11, Value::Whole(row), out),
-        Outcome::Branch { row, field } => lines::put_two(
-            12,
-            Value::Whole(row),
-            Value::Whole(field),
-            out,
-        ),
-        Outcome::Triplet { row, field } => lines::put_two(
-            13,
-            Value::Whole(row),
-            Value::Whole(field),
-            out,
-        ),
-        Outcome::Tap { row } => lines::put_one(14, Value::Whole(row), out),
-        Outcome::Ends { row } => lines::put_one(15, Value::Whole(row), out),
-        Outcome::NotConverged { mismatch, starts } => lines::put_two(
-            10,
-            Value::Real(mismatch),
-            Value::Whole(starts),
-            out,
-        ),
+        outcome::Refusal::Counts => printer.put_refused(7, &[]),
+        outcome::Refusal::Room => printer.put_refused(9, &[]),
+        outcome::Refusal::Slack { row } => printer.put_refused(8, &[Value::Whole(row)]),
+        outcome::Refusal::Generator { row } => printer.put_refused(11, &[Value::Whole(row)]),
+        outcome::Refusal::Branch { row, field } => {
+            printer.put_refused(12, &[Value::Whole(row), Value::Whole(field)])
+        }
+        outcome::Refusal::Triplet { row, field } => {
+            printer.put_refused(13, &[Value::Whole(row), Value::Whole(field)])
+        }
+        outcome::Refusal::Tap { row } => printer.put_refused(14, &[Value::Whole(row)]),
+        outcome::Refusal::Ends { row } => printer.put_refused(15, &[Value::Whole(row)]),
+        outcome::Refusal::NotConverged { mismatch, starts } => {
+            printer.put_refused(10, &[Value::Real(mismatch), Value::Whole(starts)])
+        }
+    }
+}
+
+// What is printed of a solved case.
+fn put_solved(s: Solved, f: Figures, printer: &mut Printer)
+    requires { FewFigures f × HasRoom printer.old buffer_size }
+    ensures { let e = f.entry in
+        Printed (printed_of e.n e.m (ok s.iterations s.residual) (outs_in e.buses) e.flows.now) buffer_size printer.old printer.new }
+{
+    printer.put_ok(s.iterations, s.residual);
+    printer.put_buses(f.n, f.buses);
+    printer.put_branches(f.m, f.flows);
+}
+
+// What is printed of a solve.
+fn put_outcome(r: Result<Solved, outcome::Refusal>, f: Figures, printer: &mut Printer)
+    requires { FewFigures f × HasRoom printer.old buffer_size }
+    ensures { let e = f.entry in
+        Printed (printed_of e.n e.m (paper_of r) (outs_in e.buses) e.flows.now) buffer_size printer.old printer.new }
+{
+    match r {
+        Ok(s) => put_solved(s, f, printer),
+        Err(r) => put_unsolved(r, printer),
     }
 }
 
 // Prints an answer.
 fn put_answer(
-    a: Result<Read, Refusal>,
-    vm: &[f64; 32],
-    va: &[f64; 32],
-    p: &[f64; 32],
-    q: &[f64; 32],
-    kinds: &[u8; 32],
-    f: Flows,
+    a: Result<Read, case_text::Refusal>,
+    buses: AnswerColumns,
+    flows: &Flows,
     out: &mut [u8],
 ) -> usize
-    requires { Few a × (buffer_size ≤ length out.old) }
-    ensures { let o = outs vm.now va.now p.now q.now kinds.now in
-        Wrote out.old 0 (printed_of (buses_in a) (branches_in a) (paper_in a) o f) result out.new × (result ≤ buffer_size) }
+    requires { Few a × OnePerBus 32 buses × (buffer_size ≤ length out.old) }
+    ensures { Wrote out.old 0 (printed_of (buses_in a) (branches_in a) (paper_in a) (outs_in buses.entry) flows.now) result out.new × (result ≤ buffer_size) }
 {
+    let mut printer = Printer { out, at: 0 };
     match a {
-        Ok(r) => put_outcome(r.outcome, r.buses, r.branches, vm, va, p, q, kinds, f, out),
-        Err(r) => put_reading(r, out),
+        Ok(r) => {
+            let figures = Figures {
+                n: r.buses,
+                m: r.branches,
+                buses,
+                flows,
+            };
+            put_outcome(r.outcome, figures, &mut printer)
+        }
+        Err(r) => put_unread(r, &mut printer),
     }
+    printer.at
 }
 
 // The report of a text. The buffer's first places, as many as are answered, hold it.
@@ -142,6 +127,13 @@ pub fn report(text: &[u8], out: &mut [u8; BUFFER], space: &mut [f64; 6144]) -> u
     let mut p = [0.0; 32];
     let mut q = [0.0; 32];
     let mut kinds = [0u8; 32];
-    let r = answer::answer(text, &mut vm, &mut va, &mut p, &mut q, &mut kinds, space);
-    put_answer(r.answered, &vm, &va, &p, &q, &kinds, r.flows, out)
+    let mut columns = AnswerColumnsMut {
+        vm: &mut vm,
+        va: &mut va,
+        p: &mut p,
+        q: &mut q,
+        kinds: &mut kinds,
+    };
+    let r = answer::answer(text, &mut columns, space);
+    put_answer(r.answered, columns.read(), &r.flows, out)
 }

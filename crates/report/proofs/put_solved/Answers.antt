@@ -1,11 +1,9 @@
--- `report::put_solved` meets its contract: the first line, the buses, the branches.
-use native.Mathlib.Omega.{arith}
-use Rattle.lines.specs.Lines.Laws.{then}
+-- `report::put_solved` meets its contract: the first line, the buses, the branches. Assumes nothing.
+use Rattle.std.proofs.Common.{arith, refl}
+use Rattle.lines.specs.Printer.Laws.{in_turn, at_most}
 use Rattle.report.proofs.put_solved.Goals as goal
 
 pub returns : goal.returns
 returns c =
-    let s = c.requires in (
-      then (then c.put_ok-a.ensures.0 c.put_buses-b.ensures.0) c.put_branches.ensures.0,
-      omega (arith, s.0, s.1, c.put_ok-a.ensures.1, c.put_buses-b.ensures.1, c.put_branches.ensures.1),
-    )
+    let r = c.requires.0 in
+    at_most refl (omega (arith, r.buses, r.branches)) (in_turn (in_turn c.put_ok.ensures c.put_buses.ensures) c.put_branches.ensures)
