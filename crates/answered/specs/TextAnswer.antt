@@ -12,8 +12,7 @@ use Rattle.trailer.specs.declared.Edition.TheVariants.{First, Second}
 use Rattle.case_text.specs.declared.Contents.{Contents}
 use Rattle.case_text.specs.Answer as Reader
 use Rattle.case_text.specs.declared.Refusal.{Refusal}
-use Rattle.outcome.specs.declared.Outcome.{Outcome}
-use Rattle.outcome.specs.Outcome.{Outs, paper_of}
+use Rattle.outcome.specs.Outcome.{Outcome, Outs, paper_of}
 use Rattle.tables.specs.Tables.{Answer, solve_of}
 use Rattle.flows.specs.declared.Flows.{Flows}
 use Rattle.flows.specs.Flows.{blank_flows}

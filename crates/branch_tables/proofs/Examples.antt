@@ -43,8 +43,8 @@ use Rattle.outcome.specs.Outcome.{Outs, outs, ok, lengths_in, roomy, with_answer
 use Rattle.flows.specs.declared.Flows.{Flows}
 use Rattle.flows.specs.Flows.{flow_of, flows_of, with_flows_by, flows_room}
 use Rattle.tables.specs.Tables.{answer, run_of}
-use Rattle.outcome.specs.declared.Checked.TheVariants as Checked
-use Rattle.outcome.specs.declared.Outcome.TheVariants.{Room}
+use Rattle.std.specs.Prelude.{Option, Some, None, Err}
+use Rattle.outcome.specs.declared.Refusal.TheVariants.{Room}
 use Rattle.ybus.specs.declared.Fault.{Fault}
 use Rattle.branch_checks.specs.BranchChecks.{fault_refusal, checked_branches_of}
 use Rattle.branch_tables.specs.BranchTables.{BranchAnswer, branch_answer, after_branch_check, solve_branches_of}
@@ -71,8 +71,8 @@ abbrev flow : Flows → Flows
 flow f = flows_of (set f.pf 0 (neg (double 2))) (set f.qf 0 (neg (double 8))) (set f.pt 0 (double 4)) (set f.qt 0 (double 16)) (set f.loss 0 (double 2))
 
 -- the answer where the first test of room gives r and the second s, and the branch has the fault x
-abbrev checked : BranchNetwork → Outs → Flows → List Float → Fault → Bool → Bool → BranchAnswer
-checked t o f w x r s = after_branch_check Flat t o f w (cond (both r s) (fault_refusal x) (Checked.Refused Room))
+abbrev checked : BranchNetwork → Outs → Flows → List Float → Option Fault → Bool → Bool → BranchAnswer
+checked t o f w x r s = after_branch_check Flat t o f w (cond (both r s) (fault_refusal x) (Err Room))
 
 -- columns that have two places for voltages at least
 abbrev lent : Float → Float → Float → Float → Outs → Outs
@@ -85,12 +85,12 @@ module _ (m₀ m₁ a₀ a₁ : Float) (rest : Outs) (f : Flows) (w : List Float
 
   pub joined-solved : solve_branches_of Flat (joined 1 (double 1)) o f w ≡ branch_answer (answer (ok 0 (double 0)) (rows o) (zeros w)) (flow f)
   unfolding norm_of absolute sin_cos_of group_of lowest tally each labels_of any_below kinds_of count_to layout_of sum_at limits_of stores voltages_of currents_to phasors_of injected_of y_ff y_ft y_tf y_tt listed diagonal ybus_of flow_of with_flows_by fault_at values_counted measured_of steps_from newton_of move_of moves_of pinned kept_kinds schedule_of letters_of round_of rounds_from qlim_of later_row references_of flat_of ac_pf_of nth_start better_of try_of search_from search_of both first_below in_column in_ends missing_in counted with_answer run_of checked_branches_of solve_branches_of of_int of_bits add sub mul div neg lt le is_nan
-  joined-solved = λ i. checked (joined 1 (double 1)) o f w Fault.Nothing (h i) (k i)
+  joined-solved = λ i. checked (joined 1 (double 1)) o f w None (h i) (k i)
 
   pub tap-14 : solve_branches_of Flat (joined 1 nan) o f w ≡ branch_answer (answer (refused 14 (Whole 0 ∷ [])) o w) f
   unfolding both first_below in_column in_ends missing_in counted values_counted fault_at checked_branches_of solve_branches_of of_int of_bits lt
-  tap-14 = λ i. checked (joined 1 nan) o f w (Fault.Tap 0) (h i) (k i)
+  tap-14 = λ i. checked (joined 1 nan) o f w (Some (Fault.Tap 0)) (h i) (k i)
 
   pub ends-15 : solve_branches_of Flat (joined 0 (double 1)) o f w ≡ branch_answer (answer (refused 15 (Whole 0 ∷ [])) o w) f
   unfolding both first_below in_column in_ends missing_in counted values_counted fault_at checked_branches_of solve_branches_of of_int of_bits lt
-  ends-15 = λ i. checked (joined 0 (double 1)) o f w (Fault.Ends 0) (h i) (k i)
+  ends-15 = λ i. checked (joined 0 (double 1)) o f w (Some (Fault.Ends 0)) (h i) (k i)

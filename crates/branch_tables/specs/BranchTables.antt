@@ -3,7 +3,7 @@
 pub mod Laws
 pub mod Withheld
 pub mod Space
-use Rattle.std.specs.Prelude.{ℕ, ◌≤◌, cond, List, length, Float}
+use Rattle.std.specs.Prelude.{ℕ, ◌≤◌, cond, List, length, Float, Result, Ok, Err}
 use Rattle.real.specs.Paper.{is_given}
 use Rattle.network.specs.Network.{Network}
 use Rattle.network.specs.Checks.{WellIndexed}
@@ -12,9 +12,9 @@ use Rattle.ybus.specs.Ybus.{Fit, ybus_of}
 use Rattle.flows.specs.declared.Flows.{Flows}
 use Rattle.flows.specs.Flows.{with_flows, flows_room}
 use Rattle.starts.specs.declared.AcStart.{AcStart}
-use Rattle.outcome.specs.declared.Checked.{Checked}
-use Rattle.outcome.specs.declared.Checked.TheVariants as Checked
-use Rattle.outcome.specs.Outcome.{paper_of, Outs, Lengths, lengths_in, OnePerBus}
+use Rattle.outcome.specs.declared.Solved.{Solved}
+use Rattle.outcome.specs.declared.Refusal.{Refusal}
+use Rattle.outcome.specs.Outcome.{refusal_paper, Outs, Lengths, lengths_in, OnePerBus}
 use Rattle.tables.specs.Tables.{Answer, answer, after_run, run_of}
 use Rattle.branch_checks.specs.BranchChecks.{branch_count, checked_branches_of}
 
@@ -53,9 +53,9 @@ ran_branches start t o f w =
 -- ---- the call
 
 -- a refusal of the checks leaves all lent memory untouched
-abbrev pub after_branch_check : AcStart → BranchNetwork → Outs → Flows → List Float → Checked → BranchAnswer
-after_branch_check start t o f w Checked.Ready = ran_branches start t o f w
-after_branch_check start t o f w (Checked.Refused r) = branch_answer (answer (paper_of r) o w) f
+abbrev pub after_branch_check : AcStart → BranchNetwork → Outs → Flows → List Float → Result (Unit {0}) Refusal → BranchAnswer
+after_branch_check start t o f w (Ok x) = ran_branches start t o f w
+after_branch_check start t o f w (Err r) = branch_answer (answer (refusal_paper r) o w) f
 
 unfoldable pub solve_branches_of : AcStart → BranchNetwork → Outs → Flows → List Float → BranchAnswer
 solve_branches_of start t o f w = after_branch_check start t o f w (checked_branches_of t (lengths_in o) (flows_room f) (length w))

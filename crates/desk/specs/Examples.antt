@@ -1,5 +1,5 @@
 -- 01, "Table of proved examples": each row has what the definitions give and what 01 says. `examples-hold` (proofs/Table.antt) says that all rows hold.
-use Rattle.std.specs.Prelude.{ℕ, ◌≡◌, List, [], ◌∷◌, ◌++◌, negsuc, take, Float}
+use Rattle.std.specs.Prelude.{ℕ, ◌≡◌, List, [], ◌∷◌, ◌++◌, negsuc, take, Float, None, Option, Some}
 use Rattle.std.specs.Float.{nan, binary64}
 use Rattle.std.specs.Float.Ieee.{of_int, of_bits}
 use Rattle.real.specs.Literals.{double}
@@ -11,8 +11,6 @@ use Rattle.linsolve.proofs.Examples.{single, pair, sides}
 use Rattle.islands.specs.Islands.{labels_of}
 use Rattle.layout.specs.Layout.{none, layout_of}
 use Rattle.layout.proofs.Examples.{svqq}
-use Rattle.fields.specs.declared.Real.{Real}
-use Rattle.fields.specs.declared.Real.TheVariants as Real
 use Rattle.fields.specs.Real.{real_of}
 use Rattle.case_text.proofs.Examples.{listing, point_text}
 use Rattle.report.proofs.Examples.{first_line, second_line}
@@ -23,7 +21,7 @@ pub data Value : Type 0 where
   bytes : List ℕ → Value
   numbers : List ℕ → Value
   reals : List Float → Value
-  field : Real → Value
+  field : Option Float → Value
   solve : Answer → Value
 
 pub record Row : Type 0 where
@@ -56,10 +54,10 @@ table w =
     ∷ row (reals (norm_of 2 (minus_two ∷ double 1 ∷ []) ∷ [])) (reals (double 2 ∷ []))
     ∷ row (reals (norm_of 2 (double 3 ∷ nan ∷ []) ∷ [])) (reals (nan ∷ []))
     -- `-0` is 8000000000000000; `-0.25` is bfd0000000000000
-    ∷ row (field (real_of (45 ∷ 48 ∷ []))) (field (Real.Value (of_bits binary64 0x8000000000000000)))
-    ∷ row (field (real_of (45 ∷ 48 ∷ 46 ∷ 50 ∷ 53 ∷ []))) (field (Real.Value (of_bits binary64 0xbfd0000000000000)))
+    ∷ row (field (real_of (45 ∷ 48 ∷ []))) (field (Some (of_bits binary64 0x8000000000000000)))
+    ∷ row (field (real_of (45 ∷ 48 ∷ 46 ∷ 50 ∷ 53 ∷ []))) (field (Some (of_bits binary64 0xbfd0000000000000)))
     -- `1.` is refused 5: a text whose field at byte 4 it is prints `refused 5 4`
-    ∷ row (field (real_of (49 ∷ 46 ∷ []))) (field Real.Wrong)
+    ∷ row (field (real_of (49 ∷ 46 ∷ []))) (field None)
     ∷ row (bytes (report_of point_text w).bytes) (bytes (114 ∷ 101 ∷ 102 ∷ 117 ∷ 115 ∷ 101 ∷ 100 ∷ 32 ∷ 53 ∷ 32 ∷ 52 ∷ 10 ∷ []))
     -- kinds S,V,Q,Q give angle columns none,0,1,2, magnitude columns none,none,3,4
     ∷ row (numbers (take 4 (layout_of 4 svqq).va_of)) (numbers (none ∷ 0 ∷ 1 ∷ 2 ∷ []))

@@ -7,6 +7,7 @@ use Rattle.std.specs.Float.Ieee.{add}
 use Rattle.real.specs.Literals.{nought}
 use Rattle.complex.specs.declared.Complex.{Complex}
 use Rattle.complex.specs.Numbers.{sum_of, conjugate_of, product_of}
+use Rattle.network.specs.Columns.{Kept}
 use Rattle.network.specs.Network.{Branches}
 use Rattle.network.specs.BranchTable.{BranchTable}
 use Rattle.layout.specs.Table.{stores}
@@ -52,11 +53,11 @@ abbrev pub flows_lent : FlowColumnsMut → Flows
 flows_lent c = flows_of c.pf.now c.qf.now c.pt.now c.qt.now c.loss.now
 
 pub record SameFlows (c d : FlowColumnsMut) : Type 0 where
-  pub pf : d.pf.ghost_name ≡ c.pf.ghost_name
-  pub qf : d.qf.ghost_name ≡ c.qf.ghost_name
-  pub pt : d.pt.ghost_name ≡ c.pt.ghost_name
-  pub qt : d.qt.ghost_name ≡ c.qt.ghost_name
-  pub loss : d.loss.ghost_name ≡ c.loss.ghost_name
+  pub pf : Kept c.pf d.pf
+  pub qf : Kept c.qf d.qf
+  pub pt : Kept c.pt d.pt
+  pub qt : Kept c.qt d.qt
+  pub loss : Kept c.loss d.loss
 
 -- columns of zeros for as many branches as a case may have
 abbrev pub blank_flows : Flows

@@ -282,29 +282,29 @@ fn point(s: &[u8], n: usize, m: usize, dim: usize) -> bool
     )
 }
 
-// One point: 0 where all agree, 1 where something differs, 2 where the input has no whole point left.
-fn next(head: &mut [u8; 24], body: &mut [u8; 43520]) -> u64
-    ensures { Found 2 result (Agrees body.new (word_of 0 head.new) (word_of 8 head.new) (word_of 16 head.new)) }
+// Whether one point agrees; None where the input has no whole point left.
+fn next(head: &mut [u8; 24], body: &mut [u8; 43520]) -> Option<bool>
+    ensures { Found result (Agrees body.new (word_of 0 head.new) (word_of 8 head.new) (word_of 16 head.new)) }
 {
     if !vectors::read(STDIN_FILENO, head, 24) {
-        return 2;
+        return None;
     }
     let n = vectors::word(head, 0) as usize;
     let m = vectors::word(head, 8) as usize;
     let dim = vectors::word(head, 16) as usize;
     if n > 32 {
-        return 2;
+        return None;
     }
     if m > 256 {
-        return 2;
+        return None;
     }
     if dim > 64 {
-        return 2;
+        return None;
     }
     if !vectors::read(STDIN_FILENO, body, m * 32 + n * 80 + dim * dim * 8) {
-        return 2;
+        return None;
     }
-    vectors::agreement(point(body, n, m, dim))
+    Some(point(body, n, m, dim))
 }
 
 fn main() {
@@ -313,15 +313,5 @@ fn main() {
     let mut body = [0u8; 43520];
     vectors::read(STDIN_FILENO, &mut head, 8);
     let count = vectors::word(&head, 0);
-    let mut done = 0;
-    let mut differing = 0;
-    while done < count {
-        let found = next(&mut head, &mut body);
-        if found == 2 {
-            break;
-        }
-        differing += found;
-        done += 1;
-    }
-    vectors::sum_up(b"points", done, differing);
+    vectors::compare(b"points", count, || next(&mut head, &mut body));
 }

@@ -2,7 +2,7 @@
 // (oracle/linsolve_vectors.py has the format). Places outside a system hold a mark of their own, which must stay.
 #![tactic(auto)]
 
-ghost use Rattle.std.specs.Prelude.{◌≡◌, ◌+◌, ◌*◌, ◌≤◌, ◌<◌, length};
+ghost use Rattle.std.specs.Prelude.{◌≡◌, ◌+◌, ◌*◌, ◌≤◌, ◌<◌, length, IfSome};
 ghost use Rattle.vectors.specs.Words.{word_of, Tells, Found};
 ghost use Rattle.linsolve_vectors.specs.Told.{size_of, slot_of, mark_of, told_of, Holds, number_of, Agrees};
 
@@ -16,22 +16,24 @@ fn size(dim: usize) -> usize
     dim * dim + dim
 }
 
-fn slot(dim: usize, i: usize) -> usize
+// Which place of a system the place i of the workspace is.
+fn slot(dim: usize, i: usize) -> Option<usize>
     requires { dim ≤ 64 }
-    ensures { (result ≡ slot_of dim i) × (result ≤ size_of dim) }
+    ensures is { result ≡ slot_of dim i }
+    ensures within { IfSome result (λ k. k < size_of dim) }
 {
     let row = i / 64;
     let col = i % 64;
     if dim <= col {
-        return size(dim);
+        return None;
     }
     if row == 64 {
-        return col;
+        return Some(col);
     }
     if row < dim {
-        return dim + row * dim + col;
+        return Some(dim + row * dim + col);
     }
-    size(dim)
+    None
 }
 
 fn mark(i: usize) -> f64
@@ -45,21 +47,18 @@ fn told(s: &[u8], from: usize, dim: usize, i: usize) -> f64
     requires { (dim ≤ 64) × (i < 4224) × (from + size_of dim * 8 ≤ length s.now) }
     ensures { result ≡ told_of s.now from dim i }
 {
-    let k = slot(dim, i);
-    if k == size(dim) {
-        return mark(i);
+    match slot(dim, i) {
+        Some(k) => vectors::double_at(s, from + k * 8),
+        None => mark(i),
     }
-    vectors::double_at(s, from + k * 8)
 }
 
 fn fill(w: &mut [f64], s: &[u8], dim: usize)
     requires { (dim ≤ 64) × (length w.old ≡ 4224) × (size_of dim * 8 ≤ length s.now) }
     ensures { Holds w.new s.now 0 dim }
 {
-    let mut i = 0;
-    while i < 4224 {
+    for i in 0..4224 {
         w[i] = told(s, 0, dim, i);
-        i += 1;
     }
 }
 
@@ -67,16 +66,15 @@ fn holds(w: &[f64], s: &[u8], from: usize, dim: usize) -> bool
     requires { (dim ≤ 64) × (length w.now ≡ 4224) × (from + size_of dim * 8 ≤ length s.now) }
     ensures { Tells result (Holds w.now s.now from dim) }
 {
-    let mut i = 0;
-    while i < 4224 {
+    for i in 0..4224 {
         if !vectors::same(w[i], told(s, from, dim, i)) {
             return false;
         }
-        i += 1;
     }
     true
 }
 
+// The input's number of an answer: 64 for solved, a smaller one for the column without a pivot.
 fn number(found: Result<(), Singular>) -> u64
     ensures { result ≡ number_of found }
 {
@@ -100,21 +98,21 @@ fn agrees(s: &[u8], dim: usize, answer: u64) -> bool
     holds(w, s, size(dim) * 8, dim)
 }
 
-// One system: 0 where the solve agrees, 1 where it differs, 2 where the input has no whole system left.
-fn next(head: &mut [u8; 16], body: &mut [u8; 66560]) -> u64
-    ensures { Found 2 result (Agrees body.new (word_of 0 head.new) (word_of 8 head.new)) }
+// Whether one system agrees; None where the input has no whole system left.
+fn next(head: &mut [u8; 16], body: &mut [u8; 66560]) -> Option<bool>
+    ensures { Found result (Agrees body.new (word_of 0 head.new) (word_of 8 head.new)) }
 {
     if !vectors::read(STDIN_FILENO, head, 16) {
-        return 2;
+        return None;
     }
     let dim = vectors::word(head, 0) as usize;
     if dim > 64 {
-        return 2;
+        return None;
     }
     if !vectors::read(STDIN_FILENO, body, size(dim) * 16) {
-        return 2;
+        return None;
     }
-    vectors::agreement(agrees(body, dim, vectors::word(head, 8)))
+    Some(agrees(body, dim, vectors::word(head, 8)))
 }
 
 fn main() {
@@ -123,15 +121,5 @@ fn main() {
     let mut body = [0u8; 66560];
     vectors::read(STDIN_FILENO, &mut head, 8);
     let count = vectors::word(&head, 0);
-    let mut done = 0;
-    let mut differing = 0;
-    while done < count {
-        let found = next(&mut head, &mut body);
-        if found == 2 {
-            break;
-        }
-        differing += found;
-        done += 1;
-    }
-    vectors::sum_up(b"systems", done, differing);
+    vectors::compare(b"systems", count, || next(&mut head, &mut body));
 }

@@ -12,8 +12,8 @@ fn wrapping_mul(a: u64, b: u64) -> u64
     let a_high = a / 4294967296;
     let b_low = b % 4294967296;
     let b_high = b / 4294967296;
-    let cross = std::num::wrapping_add_u64(a_low * b_high, a_high * b_low);
-    std::num::wrapping_add_u64(a_low * b_low, cross << 32)
+    let cross = (a_low * b_high).wrapping_add(a_high * b_low);
+    (a_low * b_low).wrapping_add(cross << 32)
 }
 
 // The largest word, as a double, is 2^64.

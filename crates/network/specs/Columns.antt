@@ -1,6 +1,7 @@
 -- What lent columns hold, as the records of Network and BranchTable: of columns lent for reading, and of those lent for writing; and that columns lent for
 -- writing are still those that were lent.
-use Rattle.std.specs.Prelude.{◌≡◌}
+use Rattle.std.specs.Prelude.{◌≡◌, List, length}
+use Rattle.std.specs.Borrow.{MutBor}
 use Rattle.network.specs.Network.{Buses, Slacks, Generators, Branches, Triplets, Network, buses_of, slacks_of, generators_of, branches_of, triplets_of, network_of}
 use Rattle.network.specs.BranchTable.{Values, BranchTable, BranchNetwork, values_of, branch_table_of, branch_network_of}
 use Rattle.network.specs.declared.BusColumns.{BusColumns}
@@ -81,45 +82,49 @@ branch_network_lent s t = branch_network_of (buses_lent s.buses) (slacks_lent s.
 
 -- ---- the same columns, whatever they hold now
 
+-- what is borrowed is the same, and as long as it was
+abbrev pub Kept : {A : Type 0} → MutBor (List A) → MutBor (List A) → Type 0
+Kept c d = (d.ghost_name ≡ c.ghost_name) × (length d.now ≡ length c.now)
+
 pub record SameBuses (c d : BusColumnsMut) : Type 0 where
-  pub kind : d.kind.ghost_name ≡ c.kind.ghost_name
-  pub vm_set : d.vm_set.ghost_name ≡ c.vm_set.ghost_name
-  pub pd : d.pd.ghost_name ≡ c.pd.ghost_name
-  pub qd : d.qd.ghost_name ≡ c.qd.ghost_name
-  pub pg : d.pg.ghost_name ≡ c.pg.ghost_name
-  pub qg : d.qg.ghost_name ≡ c.qg.ghost_name
-  pub vm_case : d.vm_case.ghost_name ≡ c.vm_case.ghost_name
-  pub va_case : d.va_case.ghost_name ≡ c.va_case.ghost_name
+  pub kind : Kept c.kind d.kind
+  pub vm_set : Kept c.vm_set d.vm_set
+  pub pd : Kept c.pd d.pd
+  pub qd : Kept c.qd d.qd
+  pub pg : Kept c.pg d.pg
+  pub qg : Kept c.qg d.qg
+  pub vm_case : Kept c.vm_case d.vm_case
+  pub va_case : Kept c.va_case d.va_case
 
 pub record SameSlacks (c d : SlackColumnsMut) : Type 0 where
-  pub bus : d.bus.ghost_name ≡ c.bus.ghost_name
-  pub angle : d.angle.ghost_name ≡ c.angle.ghost_name
+  pub bus : Kept c.bus d.bus
+  pub angle : Kept c.angle d.angle
 
 pub record SameGenerators (c d : GeneratorColumnsMut) : Type 0 where
-  pub bus : d.bus.ghost_name ≡ c.bus.ghost_name
-  pub qmin : d.qmin.ghost_name ≡ c.qmin.ghost_name
-  pub qmax : d.qmax.ghost_name ≡ c.qmax.ghost_name
+  pub bus : Kept c.bus d.bus
+  pub qmin : Kept c.qmin d.qmin
+  pub qmax : Kept c.qmax d.qmax
 
 pub record SameBranches (c d : BranchColumnsMut) : Type 0 where
-  pub from : d.from.ghost_name ≡ c.from.ghost_name
-  pub to : d.to.ghost_name ≡ c.to.ghost_name
+  pub from : Kept c.from d.from
+  pub to : Kept c.to d.to
 
 pub record SameTriplets (c d : TripletColumnsMut) : Type 0 where
-  pub row : d.row.ghost_name ≡ c.row.ghost_name
-  pub col : d.col.ghost_name ≡ c.col.ghost_name
-  pub re : d.re.ghost_name ≡ c.re.ghost_name
-  pub im : d.im.ghost_name ≡ c.im.ghost_name
+  pub row : Kept c.row d.row
+  pub col : Kept c.col d.col
+  pub re : Kept c.re d.re
+  pub im : Kept c.im d.im
 
 pub record SameValues (c d : ValueColumnsMut) : Type 0 where
-  pub g : d.g.ghost_name ≡ c.g.ghost_name
-  pub b : d.b.ghost_name ≡ c.b.ghost_name
-  pub g_fr : d.g_fr.ghost_name ≡ c.g_fr.ghost_name
-  pub b_fr : d.b_fr.ghost_name ≡ c.b_fr.ghost_name
-  pub g_to : d.g_to.ghost_name ≡ c.g_to.ghost_name
-  pub b_to : d.b_to.ghost_name ≡ c.b_to.ghost_name
-  pub tap : d.tap.ghost_name ≡ c.tap.ghost_name
-  pub shift : d.shift.ghost_name ≡ c.shift.ghost_name
-  pub sw : d.sw.ghost_name ≡ c.sw.ghost_name
+  pub g : Kept c.g d.g
+  pub b : Kept c.b d.b
+  pub g_fr : Kept c.g_fr d.g_fr
+  pub b_fr : Kept c.b_fr d.b_fr
+  pub g_to : Kept c.g_to d.g_to
+  pub b_to : Kept c.b_to d.b_to
+  pub tap : Kept c.tap d.tap
+  pub shift : Kept c.shift d.shift
+  pub sw : Kept c.sw d.sw
 
 pub record SameSources (s t : SourcesMut) : Type 0 where
   pub buses : SameBuses s.buses t.buses

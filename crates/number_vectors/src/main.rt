@@ -13,10 +13,8 @@ fn sin_cos_holds(s: &[u8], at: usize) -> bool
     ensures { Tells result (SinCosHolds s.now at) }
 {
     let r = trig::sin_cos(vectors::double_at(s, at));
-    if vectors::same(r.sin, vectors::double_at(s, at + 8)) {
-        return vectors::same(r.cos, vectors::double_at(s, at + 16));
-    }
-    false
+    vectors::same(r.sin, vectors::double_at(s, at + 8))
+        & vectors::same(r.cos, vectors::double_at(s, at + 16))
 }
 
 fn mix_holds(s: &[u8], at: usize) -> bool
@@ -42,14 +40,12 @@ fn agreeing(s: &[u8], n: usize) -> usize
     requires { n * 32 ≤ length s.now }
     ensures { Agreeing s.now n result }
 {
-    let mut i = 0;
-    while i < n {
+    for i in 0..n {
         if !holds(s, i * 32) {
             return i;
         }
-        i += 1;
     }
-    i
+    n
 }
 
 fn main() {

@@ -6,6 +6,7 @@ use Rattle.real.specs.Tests.{both}
 use Rattle.real.specs.declared.Value.TheVariants.{Whole, Real}
 use Rattle.real.specs.Paper.{Paper, given, refused}
 use Rattle.real.specs.Literals.{nought}
+use Rattle.network.specs.Columns.{Kept}
 use Rattle.network.specs.Network.{Triplets}
 use Rattle.network.specs.declared.Naming.{Naming}
 use Rattle.network.specs.declared.Naming.TheVariants as Naming
@@ -18,6 +19,7 @@ use Rattle.moves.specs.Moves.{letters_of}
 use Rattle.pf_ac.specs.declared.AcPf.{AcPf}
 use Rattle.pf_ac.specs.declared.AcPf.TheVariants as AcPf
 use Rattle.outcome.specs.declared.Solved.{Solved}
+use Rattle.outcome.specs.declared.AnswerColumns.{AnswerColumns}
 use Rattle.outcome.specs.declared.AnswerColumnsMut.{AnswerColumnsMut}
 use Rattle.outcome.specs.declared.Refusal.{Refusal}
 use Rattle.outcome.specs.declared.Refusal.TheVariants.{Counts, Room, Slack, Generator, Branch, Triplet, Tap, Ends, NotConverged}
@@ -40,7 +42,11 @@ refusal_paper (Tap row) = refused 14 (Whole row ∷ [])
 refusal_paper (Ends row) = refused 15 (Whole row ∷ [])
 refusal_paper (NotConverged mismatch starts) = refused 10 (Real mismatch ∷ Whole starts ∷ [])
 
-abbrev pub paper_of : Result Solved Refusal → Paper (ℕ × Float)
+-- solved, or a refusal
+abbrev pub Outcome : Type 0
+Outcome = Result Solved Refusal
+
+abbrev pub paper_of : Outcome → Paper (ℕ × Float)
 paper_of (Ok s) = ok s.iterations s.residual
 paper_of (Err r) = refusal_paper r
 
@@ -56,15 +62,18 @@ abbrev pub outs : List Float → List Float → List Float → List Float → Li
 outs vm va p q kinds = record { vm = vm; va = va; p = p; q = q; kinds = kinds }
 
 -- those that lent columns hold, and that they are still the columns that were lent
+abbrev pub outs_in : AnswerColumns → Outs
+outs_in c = outs c.vm.now c.va.now c.p.now c.q.now c.kinds.now
+
 abbrev pub outs_lent : AnswerColumnsMut → Outs
 outs_lent c = outs c.vm.now c.va.now c.p.now c.q.now c.kinds.now
 
 pub record SameOuts (c d : AnswerColumnsMut) : Type 0 where
-  pub vm : d.vm.ghost_name ≡ c.vm.ghost_name
-  pub va : d.va.ghost_name ≡ c.va.ghost_name
-  pub p : d.p.ghost_name ≡ c.p.ghost_name
-  pub q : d.q.ghost_name ≡ c.q.ghost_name
-  pub kinds : d.kinds.ghost_name ≡ c.kinds.ghost_name
+  pub vm : Kept c.vm d.vm
+  pub va : Kept c.va d.va
+  pub p : Kept c.p d.p
+  pub q : Kept c.q d.q
+  pub kinds : Kept c.kinds d.kinds
 
 -- ---- the checks
 

@@ -4,7 +4,7 @@
 ghost use Rattle.std.specs.Prelude.{◌≡◌, ◌≤◌, ◌++◌, take, drop, length, get_or};
 ghost use Rattle.network.specs.Columns.{triplets_in};
 ghost use Rattle.injections.specs.Injections.{GoodTriplets};
-ghost use Rattle.outcome.specs.Outcome.{paper_of, outs_lent, SameOuts, OnePerBus, lengths_in, roomy, row_refusal, bus_refusal, with_answer, zeros, written, write_of};
+ghost use Rattle.outcome.specs.Outcome.{paper_of, outs_in, outs_lent, SameOuts, OnePerBus, lengths_in, roomy, row_refusal, bus_refusal, with_answer, zeros, written, write_of};
 
 use layout::{BusKind, Point};
 use network::{MissingBus, Naming, TripletColumns};
@@ -43,9 +43,32 @@ pub struct AnswerColumnsMut<'a> {
     pub kinds: &'a mut [u8],
 }
 
+// The same, lent for reading.
+#[derive(Clone, Copy)]
+pub struct AnswerColumns<'a> {
+    pub vm: &'a [f64],
+    pub va: &'a [f64],
+    pub p: &'a [f64],
+    pub q: &'a [f64],
+    pub kinds: &'a [u8],
+}
+
 // ---- the checks
 
 impl AnswerColumnsMut<'_> {
+    // What was written, for reading.
+    pub fn read(&self) -> AnswerColumns<'_>
+        ensures { outs_in result ≡ outs_lent self.now }
+    {
+        AnswerColumns {
+            vm: self.vm,
+            va: self.va,
+            p: self.p,
+            q: self.q,
+            kinds: self.kinds,
+        }
+    }
+
     // Whether each column has a place for each of n buses, and the workspace its w places: refusal 9, where not.
     #[tactic(auto, unfolding(real::specs::Tests::both, crate::specs::Outcome::roomy))]
     pub fn roomy(&self, n: usize, w: usize) -> bool

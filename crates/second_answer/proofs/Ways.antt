@@ -15,8 +15,7 @@ use Rattle.case_text.specs.declared.Refusal.{Refusal}
 use Rattle.case_text.specs.Answer as Reader
 use Rattle.case_text.specs.Answer.Laws.{branch-filled-room}
 use Rattle.case_text.proofs.Unique.{accepts, writes}
-use Rattle.outcome.specs.declared.Outcome.{Outcome}
-use Rattle.outcome.specs.Outcome.{Outs, paper_of}
+use Rattle.outcome.specs.Outcome.{Outcome, Outs, paper_of}
 use Rattle.flows.specs.declared.Flows.{Flows}
 use Rattle.flows.specs.Flows.{blank_flows}
 use Rattle.tables.specs.Tables.{answer}

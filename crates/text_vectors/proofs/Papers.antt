@@ -20,12 +20,12 @@ use Rattle.trailer.specs.declared.Edition.TheVariants.{First, Second}
 use Rattle.case_text.specs.Answer.{paper_of, ReadResult, read_result}
 use Rattle.reader.specs.Reader.{Columns, columns_of, read_of}
 use Rattle.case_text.specs.declared.Contents.{Contents}
-use Rattle.case_text.specs.declared.Reading.{Reading}
 use Rattle.starts.specs.declared.AcStart.{AcStart}
 use Rattle.starts.specs.declared.AcStart.TheVariants.{Flat, Case}
 use Rattle.case_text.proofs.Refusals.{Refused, refused-paper}
 use Rattle.text_vectors.specs.Told.{number_in, place_of, refusal, answer, rows_told, edition_by, contents_by, paper_told, width_told, network_marks, outcome_told, table_in, with_table, RestAgrees}
 use Rattle.text_vectors.specs.Told.{buses_told, slacks_told, generators_told, branches_told, triplets_told, values_told, branch_table_told}
+use Rattle.case_text.specs.Text.{Reading}
 
 -- ---- the edition
 

@@ -7,12 +7,13 @@ ghost use Rattle.vectors.specs.Words.{pair_of, Tells, Found};
 ghost use Rattle.network.specs.Network.{buses_of, slacks_of, generators_of, branches_of, triplets_of, first_buses, first_slacks, first_generators, first_branches, first_triplets};
 ghost use Rattle.network.specs.BranchTable.{values_of, branch_table_of, first_values};
 ghost use Rattle.trailer.specs.Trailer.{flat_letter, mode_of};
-ghost use Rattle.real.specs.Paper.{given};
-ghost use Rattle.case_text.specs.Answer.{paper_of};
+ghost use Rattle.real.specs.Paper.{given, place_in};
+ghost use Rattle.case_text.specs.Answer.{refusal_number, refusal_values, paper_of};
 ghost use Rattle.reader.specs.Reader.{columns_of, read_of};
-ghost use Rattle.text_vectors.specs.Told.{number_in, place_of, refusal, rows_in, branch_rows, triplet_rows, rows_told, edition_by, paper_told, width_told, word_told, numbers_told, reals_told};
+ghost use Rattle.text_vectors.specs.Told.{refusal, rows_in, branch_rows, triplet_rows, rows_told, edition_by, paper_told, width_told, word_told, numbers_told, reals_told};
 ghost use Rattle.text_vectors.specs.Told.{buses_told, slacks_told, generators_told, branches_told, triplets_told, values_told, network_marks, Agrees, table_in, RestAgrees};
 
+use case_text::{Contents, Refusal};
 use starts::AcStart;
 use trailer::Edition;
 use vectors::STDIN_FILENO;
@@ -50,7 +51,7 @@ fn kinds(s: &[u8; 600000], j: usize, col: [u8; 258]) -> bool
     let n = width(s);
     let mut i = 0;
     while i < n {
-        if vectors::wide(col[i]) != told(s, j, i) {
+        if col[i] as u64 != told(s, j, i) {
             return false;
         }
         i += 1;
@@ -88,35 +89,33 @@ fn reals(s: &[u8; 600000], j: usize, col: [f64; 258]) -> bool
     true
 }
 
-// The refusal's number, and 0 of a good answer.
-fn number(r: case_text::Reading) -> usize
-    ensures { result ≡ number_in (paper_of r) }
+// The refusal's number.
+fn number(r: Refusal) -> usize
+    ensures { result ≡ refusal_number r }
 {
     match r {
-        case_text::Reading::Good(_) => 0,
-        case_text::Reading::Length(_) => 1,
-        case_text::Reading::Trailer(_) => 2,
-        case_text::Reading::Byte(_) => 3,
-        case_text::Reading::Rows(_) => 6,
-        case_text::Reading::Form(_) => 4,
-        case_text::Reading::Field(_) => 5,
-        case_text::Reading::Room => 9,
+        Refusal::Length(_) => 1,
+        Refusal::Trailer(_) => 2,
+        Refusal::Byte(_) => 3,
+        Refusal::Rows(_) => 6,
+        Refusal::Form(_) => 4,
+        Refusal::Field(_) => 5,
+        Refusal::Room => 9,
     }
 }
 
 // The refusal's place, and 0 where it has none.
-fn place(r: case_text::Reading) -> usize
-    ensures { result ≡ place_of (paper_of r) }
+fn place(r: Refusal) -> usize
+    ensures { result ≡ place_in (refusal_values r) }
 {
     match r {
-        case_text::Reading::Good(_) => 0,
-        case_text::Reading::Length(at) => at,
-        case_text::Reading::Trailer(at) => at,
-        case_text::Reading::Byte(at) => at,
-        case_text::Reading::Rows(at) => at,
-        case_text::Reading::Form(at) => at,
-        case_text::Reading::Field(at) => at,
-        case_text::Reading::Room => 0,
+        Refusal::Length(at)
+        | Refusal::Trailer(at)
+        | Refusal::Byte(at)
+        | Refusal::Rows(at)
+        | Refusal::Form(at)
+        | Refusal::Field(at) => at,
+        Refusal::Room => 0,
     }
 }
 
@@ -193,7 +192,7 @@ fn rows_agree(s: &[u8; 600000], e: Edition, r: network::Rows) -> bool
         & (r.triplets == triplet_rows(s, e))
 }
 
-fn good(s: &[u8; 600000], c: case_text::Contents) -> bool
+fn good(s: &[u8; 600000], c: Contents) -> bool
     ensures { Tells result (given c ≡ paper_told s.now) }
 {
     let e = c.edition;
@@ -203,13 +202,13 @@ fn good(s: &[u8; 600000], c: case_text::Contents) -> bool
     (vectors::pair(s, 0) == 0) & editions(e, letter) & starts(m, e, letter) & rows_agree(s, e, r)
 }
 
-fn answered(s: &[u8; 600000], v: case_text::Reading) -> bool
+fn answered(s: &[u8; 600000], v: Result<Contents, Refusal>) -> bool
     ensures { Tells result (paper_of v ≡ paper_told s.now) }
 {
-    let case_text::Reading::Good(c) = v else {
-        return refused(s, number(v), place(v));
-    };
-    good(s, c)
+    match v {
+        Ok(c) => good(s, c),
+        Err(r) => refused(s, number(r), place(r)),
+    }
 }
 
 // ---- each table, column by column; these come by value, since each lent one costs the check of the caller a place more
@@ -428,39 +427,33 @@ fn agrees(text: &[u8], s: &[u8; 600000]) -> bool
         & values_agree(s, g, b, g_fr, b_fr, g_to, b_to, tap, shift, sw)
 }
 
-// One text: 0 where its reading agrees, 1 where it differs, 2 where the input has no whole record left.
-fn next(head: &mut [u8; 4], text: &mut [u8; 65536], s: &mut [u8; 600000]) -> u64
-    ensures { Found 2 result (Agrees (take (pair_of 0 head.new) text.new) s.new) }
+// Whether the reading of one text agrees; None where the input has no whole record left.
+fn next(head: &mut [u8; 4], text: &mut [u8; 65536], s: &mut [u8; 600000]) -> Option<bool>
+    ensures { Found result (Agrees (take (pair_of 0 head.new) text.new) s.new) }
 {
     if !vectors::read(STDIN_FILENO, head, 4) {
-        return 2;
+        return None;
     }
     let n = vectors::pair(head, 0);
     if !vectors::read(STDIN_FILENO, text, n) {
-        return 2;
+        return None;
     }
     if !vectors::read(STDIN_FILENO, s, vectors::pair(head, 2)) {
-        return 2;
+        return None;
     }
     let read: &[u8] = text;
-    vectors::agreement(agrees(&read[..n], s))
+    Some(agrees(&read[..n], s))
 }
 
 fn main() {
     let mut head = [0u8; 4];
     let mut text = io::large_buffer();
     let mut s = [0u8; 600000];
-    let mut done = 0;
-    let mut differing = 0;
     vectors::read(STDIN_FILENO, &mut head, 2);
     let count = vectors::pair(&head, 0);
-    while done < count {
-        let found = next(&mut head, &mut text, &mut s);
-        if found == 2 {
-            break;
-        }
-        differing += found;
-        done += 1;
-    }
-    vectors::sum_up(b"texts", done as u64, differing);
+    vectors::compare(
+        b"texts",
+        count as u64,
+        || next(&mut head, &mut text, &mut s),
+    );
 }

@@ -1,6 +1,6 @@
 -- Words and doubles in a list of bytes, the highest byte first; and what the answer of a test says.
 pub mod Laws
-use Rattle.std.specs.Prelude.{◌≡◌, Bool, true, cond, ℕ, ◌+◌, ◌*◌, ◌≤◌, List, get_or, Float}
+use Rattle.std.specs.Prelude.{◌≡◌, Bool, true, ℕ, ◌+◌, ◌*◌, List, get_or, Float, Option, IfSome}
 use Rattle.std.specs.Float.{binary64}
 use Rattle.std.specs.Float.Ieee.{of_bits}
 
@@ -17,11 +17,6 @@ double_at at s = of_bits binary64 (word_of at s)
 abbrev pub Tells : Bool → Type 0 → Type 0
 Tells b P = (b ≡ true → P) × (P → b ≡ true)
 
-abbrev pub agreement_of : Bool → ℕ
-agreement_of b = cond b 0 1
-
--- what a turn over the input answers: 0 where it agrees, 1 where it differs, more where no whole record is left
-pub record Found (most r : ℕ) (P : Type 0) : Type 0 where
-  pub small : r ≤ most
-  pub agreed : r ≡ 0 → P
-  pub differed : r ≡ 1 → P → ⊥
+-- what a turn over the input answers: whether a whole record agrees
+abbrev pub Found : Option Bool → Type 0 → Type 0
+Found r P = IfSome r (λ b. Tells b P)

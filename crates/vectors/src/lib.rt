@@ -4,26 +4,19 @@
 ghost use Rattle.std.specs.Prelude.{◌≡◌, ◌+◌, ◌≤◌, ◌<◌, length};
 ghost use Rattle.std.specs.Float.{binary64};
 ghost use Rattle.std.specs.Float.Ieee.{of_bits};
-ghost use Rattle.vectors.specs.Words.{pair_of, word_of, double_at, Tells, agreement_of};
+ghost use Rattle.vectors.specs.Words.{pair_of, word_of, double_at, Tells};
 
 // The numbers of standard input and output.
 pub const STDIN_FILENO: i32 = 0;
 
 pub const STDOUT_FILENO: i32 = 1;
 
-// A byte as a word.
-pub fn wide(x: u8) -> u64
-    ensures { (result ≡ x) × (result < 256) }
-{
-    x as u64
-}
-
 // Two bytes from a place on, the first the higher.
 pub fn pair(s: &[u8], at: usize) -> usize
     requires { at + 2 ≤ length s.now }
     ensures { (result ≡ pair_of at s.now) × (result < 65536) }
 {
-    (wide(s[at]) * 256 + wide(s[at + 1])) as usize
+    usize::from(s[at]) * 256 + usize::from(s[at + 1])
 }
 
 // Eight bytes from a place on, the first the highest.
@@ -43,7 +36,7 @@ pub fn double(w: u64) -> f64
     ensures { result ≡ of_bits binary64 w }
 {
     if w % 0x8000_0000_0000_0000 > 0x7ff0_0000_0000_0000 {
-        return 0.0 / 0.0;
+        return f64::NAN;
     }
     f64::from_bits(w)
 }
@@ -77,14 +70,23 @@ pub fn read(fd: i32, s: &mut [u8], n: usize) -> bool
     io::read_full(fd, &mut s[..n]) == n
 }
 
-// What a turn over the input answers of a whole record: 0 where it agrees, 1 where it differs.
-pub fn agreement(agrees: bool) -> u64
-    ensures { result ≡ agreement_of agrees }
+// Compares up to `count` records, as far as the input has them, and prints the last line. A turn says whether its record agrees, None where no whole
+// record is left.
+pub fn compare<F: FnMut() -> Option<bool>>(records: &[u8], count: u64, mut next: F)
+    requires { F.IsAlwaysCallable next }
 {
-    if agrees {
-        return 0;
+    let mut done = 0;
+    let mut differing = 0;
+    for _turn in 0..count {
+        let Some(agrees) = next() else {
+            break;
+        };
+        done += 1;
+        if !agrees {
+            differing += 1;
+        }
     }
-    1
+    sum_up(records, done, differing);
 }
 
 // The last line of a test: how many records were compared, and how many of them differ.

@@ -1,6 +1,6 @@
 -- Refusals 7, 9 and of branches 13 are not met by a text, a row that names a missing bus is a line of it, withheld figures don't show in its answer, nothing that
 -- stood in the workspace does, and a text that 01's digit rule accepted is answered as it was. Assumes nothing.
-use Rattle.std.specs.Prelude.{ℕ, ◌≤◌, ◌≡◌, List, true, ◌⊎◌, length, Float, Ok, Err}
+use Rattle.std.specs.Prelude.{ℕ, ◌≤◌, ◌≡◌, List, true, ◌⊎◌, length, Float, Ok, Err, Some}
 use Rattle.std.proofs.Math.Path.{refl}
 use Rattle.std.proofs.Common.{ap, ◌∙◌, inl, inr, ⊎_elim, arith}
 use Rattle.std.proofs.Math.Seq.{length-take-le}
@@ -14,9 +14,8 @@ use Rattle.network.specs.BranchTable.{BranchNetwork, branch_room_of, with_triple
 use Rattle.network.specs.BranchTable.Laws.{room-for-branches, first-branches-counted, first-values-counted, first-branch-buses}
 use Rattle.network.specs.Checks.{sizes, counted}
 use Rattle.network.specs.Checks.Laws.{first_counted, first_buses_lem}
-use Rattle.network.specs.Missing.{missing_in}
+use Rattle.network.specs.Missing.{missing_at, missing_in}
 use Rattle.network.specs.declared.Naming.{Naming}
-use Rattle.network.specs.declared.MissingBus.TheVariants as MissingBus
 use Rattle.fields.specs.Real.{DigitRule, allowed}
 use Rattle.fields.specs.Before.{allowed_before}
 use Rattle.trailer.specs.Trailer.{trailer_start, edition_of}
@@ -37,7 +36,7 @@ use Rattle.case_text.specs.Answer.Laws.{rows-most, filled-room, branch-filled-ro
 use Rattle.flows.specs.Flows.{blank_flows}
 use Rattle.starts.specs.declared.AcStart.{AcStart}
 use Rattle.pf_ac.specs.WithStart.Withheld.{Alike}
-use Rattle.outcome.specs.Outcome.{Outs, lengths_in, paper_of, roomy, row_refusal, bus_refusal}
+use Rattle.outcome.specs.Outcome.{Outs, lengths_in, refusal_paper, roomy, row_refusal, bus_refusal}
 use Rattle.tables.specs.Tables.{checked_of, Answer, after_check, solve_of}
 use Rattle.tables.specs.Tables.Withheld.{solve-withheld}
 use Rattle.tables.specs.Tables.Space.{answer-space, columns-space}
@@ -147,10 +146,10 @@ module _ (s : List ℕ) (o : Outs) (w : List Float) (room : (n : ℕ) → n ≤ 
 
   -- the answer that is the refusal of a row
   abbrev pub row_refused : Edition → Contents → Naming → ℕ → ℕ → TextAnswer
-  row_refused e c table i j = text_answer c.rows.buses (branches_told e c) (paper_of (row_refusal table i j)) o blank_flows w
+  row_refused e c table i j = text_answer c.rows.buses (branches_told e c) (refusal_paper (row_refusal table i j)) o blank_flows w
 
   -- the refusal's row is a line of the text: the first of its section that names a missing bus, by the field told
-  edition-line : (e : Edition) (c : Contents) → checked_text e s ≡ Ok c → (table : Naming) (i j : ℕ) → missing_in (searched e c) ≡ MissingBus.At table i j
+  edition-line : (e : Edition) (c : Contents) → checked_text e s ≡ Ok c → (table : Naming) (i j : ℕ) → missing_in (searched e c) ≡ Some (missing_at table i j)
       → (text_answer_by allowed e s o w ≡ row_refused e c table i j) × LowestLine e s (trailer_start e s) table i j
   edition-line First c h table i j q =
       let a = accepted-has First s c h in
@@ -159,7 +158,7 @@ module _ (s : List ℕ) (o : Outs) (w : List Float) (room : (n : ℕ) → n ≤ 
       let a = accepted-has Second s c h in
       (edition-never-7-9 Second ∙ rw (h, q), told_line Second s (trailer_start Second s) _ (branch-lines-of s (trailer_start Second s) c a blank_branches (text-fits Second s _ c a)) table i j q)
 
-  pub refused_line_lem : (c : Contents) → text_of s ≡ Ok c → (table : Naming) (i j : ℕ) → missing_in (searched (edition_of s) c) ≡ MissingBus.At table i j
+  pub refused_line_lem : (c : Contents) → text_of s ≡ Ok c → (table : Naming) (i j : ℕ) → missing_in (searched (edition_of s) c) ≡ Some (missing_at table i j)
       → (text_answer_of s o w ≡ row_refused (edition_of s) c table i j) × LowestLine (edition_of s) s (trailer_start (edition_of s) s) table i j
   refused_line_lem = edition-line (edition_of s)
 

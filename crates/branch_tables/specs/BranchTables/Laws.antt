@@ -1,5 +1,5 @@
 -- What a solve is once the checks are met, and that the contract fixes everything.
-use Rattle.std.specs.Prelude.{ℕ, ◌<◌, true, false, List, ◌≡◌, length, Float}
+use Rattle.std.specs.Prelude.{ℕ, ◌<◌, true, false, List, ◌≡◌, length, Float, Result, Ok, Err}
 use Rattle.std.proofs.Math.Bool.{cond}
 use Rattle.std.proofs.Math.Path.{refl, ap}
 use Rattle.std.proofs.Common.{sym, ◌∙◌, arith, leb-true}
@@ -19,9 +19,9 @@ use Rattle.flows.specs.declared.Flows.{Flows}
 use Rattle.flows.specs.Flows.{with_flows_by, with_flows, flows_room}
 use Rattle.flows.specs.Flows.Laws.{flows-of-table}
 use Rattle.starts.specs.declared.AcStart.{AcStart}
-use Rattle.outcome.specs.declared.Checked.{Checked}
-use Rattle.outcome.specs.declared.Outcome.{Outcome}
-use Rattle.outcome.specs.Outcome.{paper_of, Outs, Lengths, lengths_in}
+use Rattle.outcome.specs.declared.Solved.{Solved}
+use Rattle.outcome.specs.declared.Refusal.{Refusal}
+use Rattle.outcome.specs.Outcome.{paper_of, refusal_paper, Outs, Lengths, lengths_in}
 use Rattle.outcome.specs.Outcome.Laws.{one-per-bus}
 use Rattle.tables.specs.Tables.{Answer, checked_of, run_of, answer, after_run, solve_of}
 use Rattle.tables.specs.Tables.Laws.{met-ready, answer-one}
@@ -71,12 +71,12 @@ module _ (t : BranchNetwork) (m : Lengths) (places space : ℕ) (passed : Passed
       let room = one-per-bus _ _ _ (both_l _ _ passed.room) in
       record { fit = passed-fit; indexed = passed-indexed; columns = room.0; flows = leb-true _ _ (both_r _ _ passed.room); workspace = room.1 }
 
-  pub built-ready : Checked.Ready ≡ checked_of (built_network t) m space
+  pub built-ready : Ok tt ≡ checked_of (built_network t) m space
   built-ready = met-ready (built_network t) m space passed-indexed (both_l _ _ passed.room)
 
 -- ---- what it tells that the tables are ready
 
-module _ (t : BranchNetwork) (m : Lengths) (places space : ℕ) (ready : Checked.Ready ≡ checked_branches_of t m places space) where
+module _ (t : BranchNetwork) (m : Lengths) (places space : ℕ) (ready : Ok tt ≡ checked_branches_of t m places space) where
   abbrev all_met : MetBranches t m places space
   all_met = met-branches t m places space ready
 
@@ -113,12 +113,12 @@ module _ {t : BranchNetwork} {m : Lengths} {places space : ℕ} (ready : ReadyBr
 
 module _ (start : AcStart) (t : BranchNetwork) (o : Outs) (f : Flows) (w : List Float) where
   -- a refusal of the checks leaves all lent memory untouched
-  pub branches-refused : (r : Outcome) → Checked.Refused r ≡ checked_branches_of t (lengths_in o) (flows_room f) (length w)
-      → branch_answer (answer (paper_of r) o w) f ≡ solve_branches_of start t o f w
+  pub branches-refused : (r : Refusal) → Err r ≡ checked_branches_of t (lengths_in o) (flows_room f) (length w)
+      → branch_answer (answer (refusal_paper r) o w) f ≡ solve_branches_of start t o f w
   unfolding solve_branches_of
   branches-refused r e = rw (← e)
 
-  pub branches-ready : Checked.Ready ≡ checked_branches_of t (lengths_in o) (flows_room f) (length w) → ran_branches start t o f w ≡ solve_branches_of start t o f w
+  pub branches-ready : Ok tt ≡ checked_branches_of t (lengths_in o) (flows_room f) (length w) → ran_branches start t o f w ≡ solve_branches_of start t o f w
   unfolding solve_branches_of
   branches-ready e = rw (← e)
 
@@ -129,14 +129,14 @@ module _ (start : AcStart) (t : BranchNetwork) (o : Outs) (f : Flows) (w : List 
   branches-never-7-9 h k = rw (h, k)
 
   -- demand 2: tables that are ready are solved as the first edition's are, with the built list as the triplets
-  pub solved-as-built : Checked.Ready ≡ checked_branches_of t (lengths_in o) (flows_room f) (length w) → (solve_branches_of start t o f w).solved ≡ solve_of start (built_network t) o w
+  pub solved-as-built : Ok tt ≡ checked_branches_of t (lengths_in o) (flows_room f) (length w) → (solve_branches_of start t o f w).solved ≡ solve_of start (built_network t) o w
   unfolding solve_of
   solved-as-built e =
       ap (λ a. a.solved) (sym (branches-ready e))
       ∙ rw (← built-ready t (lengths_in o) (flows_room f) (length w) (met-branches t (lengths_in o) (flows_room f) (length w) e).passed)
 
   -- 02, Ask 5: of a solved case the flows are those of the voltages answered
-  pub flows-solved : (found : ℕ × Float) → Checked.Ready ≡ checked_branches_of t (lengths_in o) (flows_room f) (length w)
+  pub flows-solved : (found : ℕ × Float) → Ok tt ≡ checked_branches_of t (lengths_in o) (flows_room f) (length w)
       → (solve_branches_of start t o f w).solved.paper ≡ given found
       → let a = solve_branches_of start t o f w in a.flows ≡ with_flows t.table a.solved.columns.vm a.solved.columns.va f
   flows-solved found ready e =
@@ -149,14 +149,14 @@ module _ (start : AcStart) (t : BranchNetwork) (o : Outs) (f : Flows) (w : List 
   unfolding solve_branches_of
   flows-kept n values = go (checked_branches_of t (lengths_in o) (flows_room f) (length w))
     where
-      go : (c : Checked) → (after_branch_check start t o f w c).solved.paper ≡ refused n values → (after_branch_check start t o f w c).flows ≡ f
-      go Checked.Ready e =
+      go : (c : Result (Unit {0}) Refusal) → (after_branch_check start t o f w c).solved.paper ≡ refused n values → (after_branch_check start t o f w c).flows ≡ f
+      go (Ok x) e =
           let c = (ran_branches start t o f w).solved.columns in
           λ i. cond (is_given (e i)) (with_flows t.table c.vm c.va f) f
-      go (Checked.Refused r) e = refl
+      go (Err r) e = refl
 
   -- two outcomes that meet the call's contract are equal, lent memory included
-  pub solve-branches-one : (r s : Outcome) (o₁ o₂ : Outs) (f₁ f₂ : Flows) (w₁ w₂ : List Float) → branch_answer (answer (paper_of r) o₁ w₁) f₁ ≡ solve_branches_of start t o f w
+  pub solve-branches-one : (r s : Result Solved Refusal) (o₁ o₂ : Outs) (f₁ f₂ : Flows) (w₁ w₂ : List Float) → branch_answer (answer (paper_of r) o₁ w₁) f₁ ≡ solve_branches_of start t o f w
       → branch_answer (answer (paper_of s) o₂ w₂) f₂ ≡ solve_branches_of start t o f w → ((r ≡ s) × (o₁ ≡ o₂) × (w₁ ≡ w₂)) × (f₁ ≡ f₂)
   solve-branches-one r s o₁ o₂ f₁ f₂ w₁ w₂ h k =
       (answer-one (solve_branches_of start t o f w).solved r s o₁ o₂ w₁ w₂ (ap (λ a. a.solved) h) (ap (λ a. a.solved) k), ap (λ a. a.flows) (h ∙ sym k))

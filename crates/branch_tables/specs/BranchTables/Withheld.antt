@@ -1,6 +1,6 @@
 -- Demand 3, of the solve over branches: tables that differ only in 01's "Withheld columns", solved with the same lent buffers, give the same answer, columns of
 -- buses and of flows, and workspace, refusals included. Of a branch nothing is withheld. Assumes nothing.
-use Rattle.std.specs.Prelude.{◌≤◌, List, ◌≡◌, leb, length, Float}
+use Rattle.std.specs.Prelude.{◌≤◌, List, ◌≡◌, leb, length, Float, Result, Ok, Err}
 use Rattle.std.proofs.Math.Bool.{cond}
 use Rattle.std.proofs.Math.Path.{refl, ap}
 use Rattle.std.proofs.Common.{◌∙◌}
@@ -13,8 +13,8 @@ use Rattle.flows.specs.declared.Flows.{Flows}
 use Rattle.flows.specs.Flows.{flows_room}
 use Rattle.starts.specs.declared.AcStart.{AcStart}
 use Rattle.pf_ac.specs.WithStart.Withheld.{kind_for, AlikeBuses, AlikeGenerators, Alike}
-use Rattle.outcome.specs.declared.Checked.{Checked}
-use Rattle.outcome.specs.declared.Outcome.TheVariants.{Counts, Room}
+use Rattle.outcome.specs.declared.Refusal.{Refusal}
+use Rattle.outcome.specs.declared.Refusal.TheVariants.{Counts, Room}
 use Rattle.outcome.specs.Outcome.{Outs, lengths_in, roomy, bus_refusal}
 use Rattle.tables.specs.Tables.Withheld.{counted_same, missing-same, ready-same}
 use Rattle.branch_checks.specs.BranchChecks.{then_fault, checked_branches_of}
@@ -48,8 +48,8 @@ module _ (start : AcStart) (t u : BranchNetwork) (a : AlikeBranches start t u) (
       cond (both (values_counted (length k.ends.from) k.values) (counted_same start _ _ alike_bare o w i))
       (cond (both (roomy (length (a.buses.kind i)) (lengths_in o) (length w)) (leb (length k.ends.from) (flows_room f)))
       (then_fault (bus_refusal (missing-same start _ _ alike_bare o w i)) (fault_of k.ends k.values.tap))
-      (Checked.Refused Room))
-      (Checked.Refused Counts)
+      (Err Room))
+      (Err Counts)
 
   -- the flows are worked out from branches and voltages that agree
   ran-same : length t.buses.kind ≤ 32 → ran_branches start t o f w ≡ ran_branches start u o f w
@@ -61,6 +61,6 @@ module _ (start : AcStart) (t u : BranchNetwork) (a : AlikeBranches start t u) (
   unfolding solve_branches_of
   branches-withheld = go (checked_branches_of t (lengths_in o) (flows_room f) (length w)) refl ∙ ap (after_branch_check start u o f w) checked-branches-same
     where
-      go : (c : Checked) → c ≡ checked_branches_of t (lengths_in o) (flows_room f) (length w) → after_branch_check start t o f w c ≡ after_branch_check start u o f w c
-      go Checked.Ready e = ran-same (ready-branches t (lengths_in o) (flows_room f) (length w) e).fit.few
-      go (Checked.Refused r) e = refl
+      go : (c : Result (Unit {0}) Refusal) → c ≡ checked_branches_of t (lengths_in o) (flows_room f) (length w) → after_branch_check start t o f w c ≡ after_branch_check start u o f w c
+      go (Ok x) e = ran-same (ready-branches t (lengths_in o) (flows_room f) (length w) e).fit.few
+      go (Err r) e = refl

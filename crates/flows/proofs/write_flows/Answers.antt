@@ -1,12 +1,12 @@
 -- `flows::write_flows` meets its contract: the places passed hold their branches' flows.
-use Rattle.std.proofs.Common.{◌<◌, length, refl, arith}
+use Rattle.std.proofs.Common.{◌<◌, length, refl, arith, length-set}
 use Rattle.layout.specs.Table.Laws.{stored-all}
 use Rattle.flows.specs.Flows.{with_flows_by}
 use Rattle.flows.proofs.Columns.{made-none, made-next}
 use Rattle.flows.proofs.write_flows.Goals as goal
 
 pub loop-e-init : goal.loop-e-init
-loop-e-init c = record { whole = refl; same = record { pf = refl; qf = refl; pt = refl; qt = refl; loss = refl }; made = made-none }
+loop-e-init c = record { whole = refl; same = record { pf = (refl, refl); qf = (refl, refl); pt = (refl, refl); qt = (refl, refl); loss = (refl, refl) }; made = made-none }
 
 -- the ends of a branch have voltages
 pub voltage-v_from-requires : goal.voltage-v_from-requires
@@ -49,7 +49,18 @@ loop-e-preserved c =
     let h : l.e < length c.args.ends.from.now = omega arith in
     let f = rw (c.voltage-v_from.ensures, c.voltage-v_to.ensures) at c.branch_flow-f.ensures in
     let s = l.invariant.same in
-    record { whole = l.invariant.whole; same = record { pf = s.pf; qf = s.qf; pt = s.pt; qt = s.qt; loss = s.loss }; made = made-next l.invariant.made h f }
+    record {
+      whole = l.invariant.whole;
+      same =
+          record {
+            pf = (s.pf.0, simp length-set s.pf.1);
+            qf = (s.qf.0, simp length-set s.qf.1);
+            pt = (s.pt.0, simp length-set s.pt.1);
+            qt = (s.qt.0, simp length-set s.qt.1);
+            loss = (s.loss.0, simp length-set s.loss.1);
+          };
+      made = made-next l.invariant.made h f;
+    }
 
 pub returns : goal.returns
 unfolding with_flows_by

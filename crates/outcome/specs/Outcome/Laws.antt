@@ -1,11 +1,11 @@
 -- What the room tells, the columns and the workspace as they are written, and that 01's numbers and values tell the answers apart. Assumes nothing.
-use Rattle.std.specs.Prelude.{ℕ, ◌≤◌, true, cond, Result, Ok, Err, List, [], ◌∷◌, ◌++◌, take, drop, ◌≡◌, refl, length, eqb, Float}
+use Rattle.std.specs.Prelude.{ℕ, ◌≤◌, true, false, cond, Result, Ok, Err, List, [], ◌∷◌, ◌++◌, take, drop, ◌≡◌, refl, length, eqb, Float}
 use Rattle.std.proofs.Common.{sym, ap, ◌∙◌, leb-true}
 use Rattle.std.specs.Float.{nan}
 use Rattle.real.specs.Tests.{both_l, both_r}
 use Rattle.real.specs.declared.Value.{Value}
 use Rattle.real.specs.declared.Value.TheVariants.{Whole, Real}
-use Rattle.real.specs.Paper.{place_in, Paper, given, refused}
+use Rattle.real.specs.Paper.{place_in, Paper, given, refused, is_given}
 use Rattle.network.specs.Network.{Triplets}
 use Rattle.layout.specs.declared.BusKind.{BusKind}
 use Rattle.layout.specs.declared.Point.{Point}
@@ -90,6 +90,18 @@ back_refused n values =
 abbrev back : Paper (ℕ × Float) → Result Solved Refusal
 back (given found) = Ok (record { iterations = found.0; residual = found.1 })
 back (refused n values) = Err (back_refused n values)
+
+-- a refusal is no answer
+pub never-given : (r : Refusal) → is_given (refusal_paper r) ≡ false
+never-given Counts = refl
+never-given Room = refl
+never-given (Slack row) = refl
+never-given (Generator row) = refl
+never-given (Branch row field) = refl
+never-given (Triplet row field) = refl
+never-given (Tap row) = refl
+never-given (Ends row) = refl
+never-given (NotConverged m k) = refl
 
 back-refusal : (r : Refusal) → back (refusal_paper r) ≡ Err r
 back-refusal Counts = refl

@@ -1,5 +1,6 @@
 -- `replay::agrees` meets its contract: the buffer's first places, as many as `report` answers, are the report. Assumes nothing.
 use mathlib.Core.Path.{◌∙◌, sym}
+use lib.Pointwise.{bytes_decides}
 use Rattle.replay.proofs.Front.{front}
 use Rattle.replay.proofs.agrees.Goals as goal
 
@@ -7,4 +8,5 @@ pub returns : goal.returns
 returns c =
     let report = c.report-k.ensures in
     let is = front report.reported.written report.prefix_len.0 in
-    (λ e. sym is ∙ c.same.ensures.0 e, λ e. c.same.ensures.1 (is ∙ e))
+    let same = bytes_decides _ c.args.answer.now in
+    (λ e. sym is ∙ same.0 (sym c.eq.ensures ∙ e), λ e. c.eq.ensures ∙ same.1 (is ∙ e))

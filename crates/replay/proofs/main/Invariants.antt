@@ -1,11 +1,6 @@
--- `replay::main` is safe and ends: it takes no more turns than its count can tell. Assumes nothing.
-use mathlib.Core.Path.{◌≡◌}
-use Prim.Native.Nat.{◌-◌, ◌≤◌}
-use lib.ListN.{length}
+-- `replay::main` is safe and ends: each turn counts one text at most. Assumes nothing.
+use Rattle.std.proofs.Common.{◌≡◌, ◌≤◌, length}
 use Rattle.replay.proofs.main.Given as goal
 
-abbrev pub invariant-loop-done : goal.invariant-loop-done
-invariant-loop-done l = (length l.head ≡ 4) × (length l.text ≡ 65536) × (length l.answer ≡ 65536) × (l.differing ≤ l.done)
-
-abbrev pub decreases-loop-done : goal.decreases-loop-done
-decreases-loop-done l = 0xffff_ffff_ffff_ffff - l.done
+abbrev pub invariant-loop-number : goal.invariant-loop-number
+invariant-loop-number l = (length l.head ≡ 4) × (length l.text ≡ 65536) × (length l.answer ≡ 65536) × (l.done ≤ l.number) × (l.differing ≤ l.number)

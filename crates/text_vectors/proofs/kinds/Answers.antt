@@ -8,11 +8,11 @@ use Rattle.text_vectors.proofs.kinds.Goals as goal
 pub loop-i-init : goal.loop-i-init
 loop-i-init c = agreed-none
 
-pub returns-then-wide-told : goal.returns-then-wide-told
-returns-then-wide-told c = never-told (λ e. c.if-wide-told.true (c.wide.ensures.0 ∙ told_at 0 c.width-n.ensures.0 _ _ e _ (omega arith) ∙ sym c.told.ensures))
+pub returns-then-col-i : goal.returns-then-col-i
+returns-then-col-i c = never-told (λ e. c.if-col-i.true (told_at 0 c.width-n.ensures.0 _ _ e _ (omega arith) ∙ sym c.told.ensures))
 
 pub loop-i-preserved : goal.loop-i-preserved
-loop-i-preserved c = agreed-next c.loop-i.invariant (omega arith) (sym c.wide.ensures.0 ∙ c.if-wide-told.false ∙ c.told.ensures)
+loop-i-preserved c = agreed-next c.loop-i.invariant (omega arith) (c.if-col-i.false ∙ c.told.ensures)
 
 pub returns : goal.returns
 returns c = agreed-all c.loop-i.invariant (omega arith) c.width-n.ensures.0 (omega arith)

@@ -1,9 +1,9 @@
 -- What the answers of tests say, one and several together, and what a turn over the input has found. Assumes nothing.
-use Rattle.std.specs.Prelude.{ℕ, ◌≤◌, ◌<◌, ◌≡◌, refl, Bool, true, false, not, ◌&&◌, eqb}
-use Rattle.std.proofs.Common.{sym, ◌∙◌, true≢false, arith, eq-eqb, eqb-true}
+use Rattle.std.specs.Prelude.{ℕ, ◌≡◌, refl, Bool, true, false, not, ◌&&◌, eqb, Some, None}
+use Rattle.std.proofs.Common.{sym, ◌∙◌, true≢false, eq-eqb, eqb-true}
 use Rattle.std.proofs.lemmas.Bool.{not-true}
 use Rattle.real.specs.Tests.{true-false}
-use Rattle.vectors.specs.Words.{Tells, agreement_of, Found}
+use Rattle.vectors.specs.Words.{Tells, Found}
 
 -- ---- tests
 
@@ -32,16 +32,15 @@ same-told e t = last-told t (λ f. e ∙ f) (λ f. sym e ∙ f)
 
 -- ---- a turn
 
-pub found-agreed : {most : ℕ} {P : Type 0} → P → Found most 0 P
-found-agreed p = record { small = omega arith; agreed = λ e. p; differed = λ e. absurd (omega arith) }
+pub found-agreed : {P : Type 0} → P → Found (Some true) P
+found-agreed p = (λ e. p, λ q. refl)
 
-pub found-differed : {most : ℕ} {P : Type 0} → 1 ≤ most → (P → ⊥) → Found most 1 P
-found-differed k h = record { small = k; agreed = λ e. absurd (omega arith); differed = λ e. h }
+pub found-differed : {P : Type 0} → (P → ⊥) → Found (Some false) P
+found-differed h = never-told h
 
-pub found-told : {most r : ℕ} {P : Type 0} (b : Bool) → 1 ≤ most → Tells b P → r ≡ agreement_of b → Found most r P
-found-told true k t e = rw e (found-agreed (t.0 refl))
-found-told false k t e = rw e (found-differed k (λ p. true-false (t.1 p) refl))
+pub found-told : {P : Type 0} (b : Bool) → Tells b P → Found (Some b) P
+found-told b t = t
 
 -- no whole record, so nothing is said of it
-pub no_record : {most r : ℕ} {P : Type 0} → 1 < r → r ≤ most → Found most r P
-no_record h k = record { small = k; agreed = λ e. absurd (omega arith); differed = λ e. absurd (omega arith) }
+pub no_record : (P : Type 0) → Found None P
+no_record P = tt
