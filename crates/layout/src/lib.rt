@@ -103,6 +103,7 @@ fn flag_kind(byte: u8) -> BusKind
     }
 }
 
+#[tactic(auto, unfolding(crate::specs::Table::stores))]
 fn flagged(n: usize, kind: &[u8]) -> [BusKind; 32]
     requires { (n ≤ 32) × (n ≤ length kind.now) }
     ensures { result ≡ table n Pq (λ b. flag_kind (get_or kind.now b 0)) }
@@ -164,6 +165,7 @@ struct Columns {
 }
 
 // Gives the buses that have this unknown their columns, in bus order from first on.
+#[tactic(auto, unfolding(crate::specs::Table::stores, crate::specs::Layout::count_to))]
 fn numbers(u: Unknown, n: usize, kinds: [BusKind; 32], first: usize) -> Columns
     requires { (n ≤ 32) × (first ≤ 32) }
     ensures { (result.of ≡ table n none (number_at u kinds first)) × (result.next ≡ count_to u kinds first n) × (result.next ≤ first + n) }
@@ -187,6 +189,7 @@ fn missing_power(g: f64, d: f64, calc: f64) -> f64
     (g - d) - calc
 }
 
+#[tactic(auto, unfolding(crate::specs::Residual::at_row))]
 fn put(r: &mut [f64; 64], row: usize, x: f64)
     ensures { r.new ≡ at_row r.old row x }
 {
@@ -198,6 +201,7 @@ fn put(r: &mut [f64; 64], row: usize, x: f64)
 // ---- the layout
 
 impl AcPfLayout {
+    #[tactic(auto, unfolding(crate::specs::Layout::layout_of))]
     pub fn with_kinds(n: usize, kinds: [BusKind; 32]) -> AcPfLayout
         requires { n ≤ 32 }
         ensures { result ≡ layout_of n kinds }
@@ -266,6 +270,7 @@ impl AcPfLayout {
     }
 
     // The mismatch at each row that exists. The other places are 0.0.
+    #[tactic(auto, unfolding(crate::specs::Residual::residual_to))]
     pub fn residual(self, w: &PowerColumns) -> [f64; 64]
         requires { (self.n ≤ 32) × (self.n ≤ length w.now.pd.now) × (self.n ≤ length w.now.qd.now) × (self.n ≤ length w.now.pg.now) }
         ensures { result ≡ residual_of self (powers_in w.now) }
@@ -284,6 +289,7 @@ impl AcPfLayout {
 // ---- limits
 
 // The limits of all generators at a bus, summed in generator order.
+#[tactic(auto, unfolding(crate::specs::Table::stores, crate::specs::Limits::sum_at, crate::specs::Limits::limits_of, real::specs::Any::any_below))]
 pub fn aggregate_q(gens: GeneratorColumns) -> Limits
     requires { (length gens.qmin.now ≡ length gens.bus.now) × (length gens.qmax.now ≡ length gens.bus.now) × Below 32 gens.bus.now }
     ensures { result ≡ limits_of gens.entry.bus.now gens.entry.qmin.now gens.entry.qmax.now }

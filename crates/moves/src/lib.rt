@@ -152,6 +152,7 @@ fn sched_at(k: BusKind, q: f64) -> f64
 
 // ---- all buses
 
+#[tactic(auto, unfolding(layout::specs::Table::stores, crate::specs::Moves::moves_of))]
 pub fn moves(
     n: usize,
     kinds: [BusKind; 32],
@@ -190,6 +191,7 @@ pub fn any_move(n: usize, ms: [Move; 32]) -> bool
     ms[..n].iter().any(|&m| m != Move::Keep)
 }
 
+#[tactic(auto, unfolding(layout::specs::Table::stores, crate::specs::Moves::kinds_after))]
 pub fn kinds_after(n: usize, kinds: [BusKind; 32], ms: [Move; 32]) -> [BusKind; 32]
     requires { n ≤ 32 }
     ensures { result ≡ kinds_after n kinds ms }
@@ -201,6 +203,7 @@ pub fn kinds_after(n: usize, kinds: [BusKind; 32], ms: [Move; 32]) -> [BusKind; 
     next
 }
 
+#[tactic(auto, unfolding(layout::specs::Table::stores, crate::specs::Moves::track_after))]
 pub fn track_after(n: usize, t: Track, limits: Limits, qg: [f64; 32], ms: [Move; 32]) -> Track
     requires { n ≤ 32 }
     ensures { result ≡ track_after n t limits qg ms }
@@ -221,6 +224,7 @@ pub fn track_after(n: usize, t: Track, limits: Limits, qg: [f64; 32], ms: [Move;
 }
 
 // Generator buses regulate to the held voltage.
+#[tactic(auto, unfolding(layout::specs::Table::stores, crate::specs::Moves::pinned))]
 pub fn pin(n: usize, kinds: [BusKind; 32], vm_hold: [f64; 32], p: Point) -> Point
     requires { n ≤ 32 }
     ensures { result ≡ pinned n kinds vm_hold p }
@@ -233,6 +237,7 @@ pub fn pin(n: usize, kinds: [BusKind; 32], vm_hold: [f64; 32], p: Point) -> Poin
 }
 
 // What is scheduled at the Q buses: no other bus's figure is read by Newton.
+#[tactic(auto, unfolding(layout::specs::Table::stores, crate::specs::Moves::schedule_of))]
 pub fn schedule(n: usize, kinds: [BusKind; 32], qsched: [f64; 32]) -> [f64; 32]
     requires { n ≤ 32 }
     ensures { result ≡ schedule_of n kinds qsched }
@@ -252,6 +257,7 @@ pub fn kept_kinds(n: usize, kinds: [BusKind; 32]) -> [BusKind; 32]
     layout::column(n, BusKind::Slack, &kinds)
 }
 
+#[tactic(auto, unfolding(layout::specs::Table::stores, crate::specs::Moves::letters_of))]
 pub fn letters(n: usize, kinds: [BusKind; 32]) -> [u8; 32]
     requires { n ≤ 32 }
     ensures { result ≡ letters_of n kinds }

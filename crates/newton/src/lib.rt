@@ -63,6 +63,7 @@ pub struct Ended {
 // ---- a trial point
 
 // x + alpha * dx, with dx as the solve left it; x where there is no column.
+#[tactic(auto, unfolding(crate::specs::Step::moved_by))]
 fn moved(x: f64, c: usize, alpha: f64, w: &[f64]) -> f64
     requires { 4160 ≤ length w.now }
     ensures { result ≡ moved_by x c alpha w.now }
@@ -70,6 +71,7 @@ fn moved(x: f64, c: usize, alpha: f64, w: &[f64]) -> f64
     if c < NONE { x + alpha * w[4096 + c] } else { x }
 }
 
+#[tactic(auto, unfolding(layout::specs::Table::stores, crate::specs::Step::step_of))]
 fn take_step(layout: AcPfLayout, p: Point, w: &[f64], alpha: f64) -> Point
     requires { (layout.n ≤ 32) × (4160 ≤ length w.now) }
     ensures { result ≡ step_of layout p w.now alpha }
@@ -90,6 +92,7 @@ fn unfit_at(m: f64, a: f64) -> bool
     real::is_nan(m) || m <= 0.0 || real::is_nan(a)
 }
 
+#[tactic(auto, unfolding(real::specs::Any::any_below))]
 fn unfit(n: usize, p: Point) -> bool
     requires { n ≤ 32 }
     ensures { result ≡ unfit_to n p }
@@ -103,6 +106,7 @@ fn unfit(n: usize, p: Point) -> bool
 
 // ---- a point measured
 
+#[tactic(auto, unfolding(crate::specs::Newton::measured_of))]
 fn measure(g: &NewtonProblem, p: Point) -> Measured
     requires { GoodProblem (problem_in g.now) }
     ensures { result ≡ measured_of (problem_in g.now) p }
@@ -139,6 +143,7 @@ fn load_sides(dim: usize, r: [f64; 64], w: &mut [f64])
 }
 
 // Solves for the step at a point. It stands in the right side's places.
+#[tactic(auto, unfolding(crate::specs::Newton::direction_of))]
 fn direction(g: &NewtonProblem, va: [f64; 32], m: Measured, w: &mut [f64]) -> Result<(), Singular>
     requires { GoodTriplets g.now.layout.n (triplets_in g.now.y) × (g.now.layout.dim ≤ 64) × (4160 ≤ length w.old) }
     ensures { outcome result w.new ≡ direction_of (triplets_in g.now.y) g.now.layout va m w.old }
@@ -153,6 +158,7 @@ fn direction(g: &NewtonProblem, va: [f64; 32], m: Measured, w: &mut [f64]) -> Re
 // ---- the length
 
 // One length: taken only if the trial is fit and its norm strictly lower.
+#[tactic(auto, unfolding(crate::specs::Newton::attempt_of))]
 fn attempt(g: &NewtonProblem, p: Point, m: Measured, w: &[f64], alpha: f64) -> Option<Trial>
     requires { GoodProblem (problem_in g.now) × (4160 ≤ length w.now) }
     ensures { result ≡ attempt_of (measured_of (problem_in g.now)) g.now.layout p m w.now alpha }

@@ -42,6 +42,7 @@ fn first_start(start: AcStart, n: usize, buses: BusColumns, r: References, flat:
 }
 
 // The first start, and then those from the flat one on.
+#[tactic(auto, unfolding(crate::specs::Search::nth_start))]
 fn start_at(
     start: AcStart,
     n: usize,

@@ -111,6 +111,7 @@ fn angle_for(reference: f64, stored: f64, slack: f64) -> f64
 }
 
 // The stored state: angles relative to the island's slack, shifted to its reference.
+#[tactic(auto, unfolding(layout::specs::Table::stores, crate::specs::Starts::case_of))]
 pub fn case_start(n: usize, buses: BusColumns, r: References) -> Point
     requires { (n ≤ 32) × (n ≤ length buses.vm_set.now) × (n ≤ length buses.vm_case.now) × (n ≤ length buses.va_case.now) × SlacksBelow n r }
     ensures { result ≡ case_of n buses.entry.vm_set.now buses.entry.vm_case.now buses.entry.va_case.now r }
@@ -147,6 +148,7 @@ fn scale(k: BusKind, x: f64, bus: usize, r: usize) -> f64
 }
 
 // The free unknowns moved: up to 0.1 rad, up to 3 percent.
+#[tactic(auto, unfolding(layout::specs::Table::stores, crate::specs::Starts::perturbed_of))]
 fn perturbed(n: usize, kinds: [BusKind; 32], flat: Point, r: usize) -> Point
     requires { (n ≤ 32) × (r ≤ 32) }
     ensures { result ≡ perturbed_of n kinds flat r }
@@ -161,6 +163,7 @@ fn perturbed(n: usize, kinds: [BusKind; 32], flat: Point, r: usize) -> Point
 }
 
 // The flat start, then its perturbations.
+#[tactic(auto, unfolding(crate::specs::Starts::from_flat))]
 pub fn from_flat(n: usize, kinds: [BusKind; 32], flat: Point, i: usize) -> Point
     requires { (n ≤ 32) × (i ≤ 32) }
     ensures { result ≡ from_flat n kinds flat i }

@@ -1,5 +1,5 @@
 -- `layout::aggregate_q` meets its contract: after each generator the three tables are those of the generators passed. Assumes nothing.
-use Prim.Native.Nat.{◌-◌, ◌≤◌}
+use Prim.Native.Nat.{◌≤◌}
 use mathlib.Core.Path.{◌≡◌}
 use mathlib.Core.Bool.{false}
 use lib.ListN.{length}

@@ -8,9 +8,6 @@ use Rattle.layout.proofs.default_kinds.Goals as goal
 pub loop-b-init : goal.loop-b-init
 loop-b-init c = let a = c.args in c.flagged-kinds.ensures ∙ kinds-begin a.n a.kind.now a.slacks.now
 
-pub bounds-kinds-b : goal.bounds-kinds-b
-bounds-kinds-b c = omega (arith, c.requires.2 c.loop-b.b-index (omega arith))
-
 pub loop-b-preserved : goal.loop-b-preserved
 loop-b-preserved c =
     let l = c.loop-b in

@@ -1,5 +1,5 @@
 -- `layout::numbers` meets its contract: the places passed hold their numbers, and the next one follows them. Assumes nothing.
-use Prim.Native.Nat.{◌+◌, ◌-◌, ◌≤◌}
+use Prim.Native.Nat.{◌+◌, ◌≤◌}
 use lib.ListN.{replicate}
 use Rattle.layout.specs.Table.Laws.{Counted, Stored}
 use Rattle.layout.specs.Layout.{none, number_at, count_to}

@@ -1,5 +1,4 @@
 -- `moves::kinds_after` meets its contract: the buses passed have their new kinds. Assumes nothing.
-use Prim.Native.Nat.{◌-◌}
 use lib.ListN.{get_or}
 use Rattle.layout.specs.Layout.{kind_of}
 use Rattle.layout.specs.Table.Laws.{Stored}

@@ -1,5 +1,4 @@
 -- `moves::letters` meets its contract: the buses passed have their letters. Assumes nothing.
-use Prim.Native.Nat.{◌-◌}
 use lib.ListN.{replicate}
 use Rattle.layout.specs.Table.Laws.{Stored}
 use Rattle.layout.specs.Layout.{kind_of}

@@ -1,5 +1,4 @@
 -- `moves::moves` meets its contract: the buses passed have their moves. Assumes nothing.
-use Prim.Native.Nat.{◌-◌}
 use lib.ListN.{replicate}
 use Rattle.layout.specs.Table.Laws.{Stored}
 use Rattle.moves.specs.declared.Move.TheVariants.{Keep}

@@ -1,5 +1,4 @@
 -- `moves::pin` meets its contract: the buses passed are pinned. Assumes nothing.
-use Prim.Native.Nat.{◌-◌}
 use Rattle.layout.specs.Table.Laws.{Counted}
 use Rattle.moves.specs.Moves.{pin_to}
 use Rattle.moves.proofs.pin.Given as goal

@@ -1,5 +1,4 @@
 -- `moves::schedule` meets its contract: the buses passed have their figure. Assumes nothing.
-use Prim.Native.Nat.{◌-◌}
 use lib.ListN.{get_or, replicate}
 use lib.Ieee.{nan}
 use Rattle.real.specs.Literals.{nought}

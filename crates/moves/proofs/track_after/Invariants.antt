@@ -1,5 +1,4 @@
 -- `moves::track_after` meets its contract: the buses passed are tracked on. Assumes nothing.
-use Prim.Native.Nat.{◌-◌}
 use Rattle.layout.specs.Table.Laws.{Counted}
 use Rattle.moves.specs.Moves.{track_to}
 use Rattle.moves.proofs.track_after.Given as goal

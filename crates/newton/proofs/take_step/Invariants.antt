@@ -1,5 +1,5 @@
 -- `newton::take_step` meets its contract: the buses passed are moved. Assumes nothing.
-use Prim.Native.Nat.{◌-◌, ◌≤◌}
+use Prim.Native.Nat.{◌≤◌}
 use mathlib.Core.Path.{◌≡◌}
 use Rattle.layout.specs.Layout.{va_col, vm_col}
 use Rattle.newton.specs.Step.{step_to}

@@ -1,5 +1,5 @@
 -- `starts::by_island` meets its contract: after each row its island has its slack and its reference. Assumes nothing.
-use Prim.Native.Nat.{◌-◌, ◌≤◌}
+use Prim.Native.Nat.{◌≤◌}
 use mathlib.Core.Path.{◌≡◌}
 use Rattle.std.specs.Prelude.{None}
 use lib.ListN.{length, get_or}

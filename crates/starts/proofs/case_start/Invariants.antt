@@ -1,5 +1,4 @@
 -- `starts::case_start` meets its contract: the places passed are set. Assumes nothing.
-use Prim.Native.Nat.{◌-◌}
 use lib.ListN.{replicate}
 use Rattle.real.specs.Literals.{nought}
 use Rattle.layout.specs.Table.Laws.{Stored}

@@ -1,5 +1,5 @@
 -- `starts::island_references` meets its contract: the buses passed have their island's slack and reference. Assumes nothing.
-use Prim.Native.Nat.{◌-◌, ◌≤◌}
+use Prim.Native.Nat.{◌≤◌}
 use mathlib.Core.Path.{◌≡◌}
 use Rattle.std.specs.Prelude.{None}
 use Rattle.real.specs.Literals.{nought}

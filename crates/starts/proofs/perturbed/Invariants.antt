@@ -1,5 +1,4 @@
 -- `starts::perturbed` meets its contract: the places passed are set. Assumes nothing.
-use Prim.Native.Nat.{◌-◌}
 use lib.ListN.{get_or, replicate}
 use lib.Ieee.{nan}
 use Rattle.real.specs.Literals.{nought}

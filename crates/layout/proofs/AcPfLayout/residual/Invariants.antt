@@ -1,5 +1,4 @@
 -- `AcPfLayout::residual` meets its contract: the rows of the buses passed are stored. Assumes nothing.
-use Prim.Native.Nat.{◌-◌}
 use Rattle.layout.specs.Table.Laws.{Counted}
 use Rattle.layout.specs.Layout.{p_row, q_row}
 use Rattle.layout.specs.Residual.{powers_in, residual_to}
