@@ -17,30 +17,21 @@ use network::{
     ValueColumnsMut,
 };
 
-// A part of the text.
-#[derive(Clone, Copy)]
-struct Part {
-    from: usize,
-    to: usize,
-}
-
-// Piece n between the spaces; an empty part where there is none.
-fn piece(s: &[u8], a: usize, e: usize, n: usize) -> Part
-    requires { (a ≤ e) × (e ≤ length s.now) }
-    ensures { (result.from ≤ result.to) × (result.to ≤ e) × (slice result.from result.to s.now ≡ get_or (pieces 32 (slice a e s.now)) n []) }
+// Piece n between the spaces of a line, empty where there is none.
+fn piece<'a>(l: &'a [u8], n: usize) -> &'a [u8]
+    ensures { result.now ≡ get_or (pieces 32 l.now) n [] }
 {
-    let mut i = a;
+    let e = l.len();
+    let mut i: usize = 0;
     for _k in 0..n {
-        let q = fields::find(s, i, e, b' ');
+        let q = fields::find(l, i, e, b' ');
         if q == e {
-            return Part { from: e, to: e };
+            return &l[e..];
         }
         i = q + 1;
     }
-    Part {
-        from: i,
-        to: fields::find(s, i, e, b' '),
-    }
+    let q = fields::find(l, i, e, b' ');
+    &l[i..q]
 }
 
 // What a column holds: the value of a field that was found good.
@@ -48,17 +39,16 @@ trait Cell: Copy {
     // Of the field's bytes.
     ghost value: { List ℕ → Self };
 
-    fn read(s: &[u8], a: usize, e: usize) -> Self
-        requires { (a ≤ e) × (e ≤ length s.now) }
-        ensures { result ≡ value (slice a e s.now) };
+    fn read(f: &[u8]) -> Self
+        ensures { result ≡ value f.now };
 }
 
 // A real, or `?`.
 impl Cell for f64 {
     ghost value = { real_value };
 
-    fn read(s: &[u8], a: usize, e: usize) -> f64 {
-        fields::real_or_nan(s, a, e).unwrap_or(0.0)
+    fn read(f: &[u8]) -> f64 {
+        fields::real_or_nan(f).unwrap_or(0.0)
     }
 }
 
@@ -66,8 +56,8 @@ impl Cell for f64 {
 impl Cell for usize {
     ghost value = { number_value };
 
-    fn read(s: &[u8], a: usize, e: usize) -> usize {
-        fields::read_bus(s, a, e).unwrap_or(0)
+    fn read(f: &[u8]) -> usize {
+        fields::read_bus(f).unwrap_or(0)
     }
 }
 
@@ -75,18 +65,20 @@ impl Cell for usize {
 impl Cell for u8 {
     ghost value = { kind_value };
 
-    fn read(s: &[u8], a: usize, e: usize) -> u8 {
-        if a < e { s[a] } else { 0 }
+    fn read(f: &[u8]) -> u8 {
+        match f {
+            [b, ..] => *b,
+            [] => 0,
+        }
     }
 }
 
 // Field j of a line.
-fn cell_at<T: Cell>(s: &[u8], a: usize, e: usize, j: usize) -> T
-    requires { (a ≤ e) × (e ≤ length s.now) × (j < 16) }
-    ensures { result ≡ T.value (cell_of j (slice a e s.now)) }
+fn cell_at<T: Cell>(l: &[u8], j: usize) -> T
+    requires { j < 16 }
+    ensures { result ≡ T.value (cell_of j l.now) }
 {
-    let c = piece(s, a, e, j + 1);
-    T::read(s, c.from, c.to)
+    T::read(piece(l, j + 1))
 }
 
 // Field j of each line of a section.
@@ -101,7 +93,7 @@ fn fill<T: Cell>(s: &[u8], a: usize, e: usize, j: usize, out: &mut [T])
         if p == e {
             return;
         }
-        *x = cell_at(s, i, p, j);
+        *x = cell_at(&s[i..p], j);
         i = p + 1;
     }
 }

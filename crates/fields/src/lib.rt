@@ -1,10 +1,9 @@
-// The fields of a case text: a bus number, a real, and `?` for NaN. Each function reads the field that stands from a up to e, and answers `None` where it is wrong.
+// The fields of a case text: a bus number, a real, and `?` for NaN. A reader answers `None` of a field that is wrong.
 #![tactic(auto)]
 
 ghost use Rattle.std.specs.Prelude.{◌≡◌, ◌^◌, ◌<◌, ◌≤◌, length};
 ghost use Rattle.std.specs.Float.{binary64};
 ghost use Rattle.std.specs.Float.Ieee.{div};
-ghost use Rattle.std.proofs.Math.Seq.{slice};
 ghost use Rattle.real.specs.Literals.{double};
 ghost use Rattle.fields.specs.Cut.{Found, only};
 ghost use Rattle.fields.specs.Digits.{limited_of, bus_of};
@@ -21,22 +20,20 @@ pub fn find(s: &[u8], a: usize, e: usize, x: u8) -> usize
     }
 }
 
-// Whether the one byte x stands there.
-pub fn is_byte(s: &[u8], a: usize, e: usize, x: u8) -> bool
-    requires { (a ≤ e) × (e ≤ length s.now) }
-    ensures { result ≡ only x (slice a e s.now) }
+// Whether the field is the one byte x.
+pub fn is_byte(f: &[u8], x: u8) -> bool
+    ensures { result ≡ only x f.now }
 {
-    a + 1 == e && s[a] == x
+    f.len() == 1 && f[0] == x
 }
 
 // The digits as a whole number, after those that gave `from`. It stays below 10^15: from 10^14 on a digit more would be the sixteenth that counts.
-pub fn whole(s: &[u8], a: usize, e: usize, from: usize) -> Option<usize>
-    requires within { (a ≤ e) × (e ≤ length s.now) }
-    requires small { from < 10 ^ 15 }
-    ensures { result ≡ limited_of from (slice a e s.now) }
+pub fn whole(f: &[u8], from: usize) -> Option<usize>
+    requires { from < 10 ^ 15 }
+    ensures { result ≡ limited_of from f.now }
 {
     let mut m = from;
-    for &b in &s[a..e] {
+    for &b in f {
         if !b.is_ascii_digit() {
             return None;
         }
@@ -48,17 +45,17 @@ pub fn whole(s: &[u8], a: usize, e: usize, from: usize) -> Option<usize>
     Some(m)
 }
 
-pub fn read_bus(s: &[u8], a: usize, e: usize) -> Option<usize>
-    requires { (a ≤ e) × (e ≤ length s.now) }
-    ensures { result ≡ bus_of (slice a e s.now) }
+pub fn read_bus(f: &[u8]) -> Option<usize>
+    ensures { result ≡ bus_of f.now }
 {
-    if a == e || 3 < e - a {
+    let n = f.len();
+    if n == 0 || 3 < n {
         return None;
     }
-    if s[a] == b'0' && a + 1 < e {
+    if f[0] == b'0' && 1 < n {
         return None;
     }
-    whole(s, a, e, 0)
+    whole(f, 0)
 }
 
 // The power of ten of k decimals: 1.0 multiplied by ten once for each.
@@ -81,59 +78,52 @@ fn scaled(m: usize, k: usize) -> f64
     (m as f64) / ten(k)
 }
 
-// The digits from a up to b, and as decimals those from c up to e.
-fn amount(s: &[u8], a: usize, b: usize, c: usize, e: usize) -> Option<f64>
-    requires whole_within { (a ≤ b) × (b ≤ length s.now) }
-    requires decimals_within { (c ≤ e) × (e ≤ length s.now) }
-    ensures { result ≡ amount_of (slice a b s.now) (slice c e s.now) }
+// The digits before the point, w, and those behind it, d.
+fn amount(w: &[u8], d: &[u8]) -> Option<f64>
+    ensures { result ≡ amount_of w.now d.now }
 {
-    if a == b {
+    if w.is_empty() {
         return None;
     }
-    let k = e - c;
+    let k = d.len();
     if 22 < k {
         return None;
     }
-    let w = whole(s, a, b, 0)?;
-    let m = whole(s, c, e, w)?;
+    let n = whole(w, 0)?;
+    let m = whole(d, n)?;
     Some(scaled(m, k))
 }
 
 // A real with no minus.
-fn unsigned(s: &[u8], a: usize, e: usize) -> Option<f64>
-    requires { (a ≤ e) × (e ≤ length s.now) }
-    ensures { result ≡ unsigned_of (slice a e s.now) }
+fn unsigned(f: &[u8]) -> Option<f64>
+    ensures { result ≡ unsigned_of f.now }
 {
-    let p = find(s, a, e, b'.');
-    if p < e {
-        if p + 1 == e {
-            return None;
-        }
-        return amount(s, a, p, p + 1, e);
+    let e = f.len();
+    let p = find(f, 0, e, b'.');
+    if p == e {
+        return amount(f, &[]);
     }
-    amount(s, a, e, e, e)
-}
-
-pub fn read_real(s: &[u8], a: usize, e: usize) -> Option<f64>
-    requires { (a ≤ e) × (e ≤ length s.now) }
-    ensures { result ≡ real_of (slice a e s.now) }
-{
-    if a == e {
+    if p + 1 == e {
         return None;
     }
-    if s[a] == b'-' {
-        return unsigned(s, a + 1, e).map(|x| -x);
+    amount(&f[..p], &f[p + 1..])
+}
+
+pub fn read_real(f: &[u8]) -> Option<f64>
+    ensures { result ≡ real_of f.now }
+{
+    if 0 < f.len() && f[0] == b'-' {
+        return unsigned(&f[1..]).map(|x| -x);
     }
-    unsigned(s, a, e)
+    unsigned(f)
 }
 
 // A real, or `?` for NaN.
-pub fn real_or_nan(s: &[u8], a: usize, e: usize) -> Option<f64>
-    requires { (a ≤ e) × (e ≤ length s.now) }
-    ensures { result ≡ or_nan_of (slice a e s.now) }
+pub fn real_or_nan(f: &[u8]) -> Option<f64>
+    ensures { result ≡ or_nan_of f.now }
 {
-    if is_byte(s, a, e, b'?') {
+    if is_byte(f, b'?') {
         return Some(0.0 / 0.0);
     }
-    read_real(s, a, e)
+    read_real(f)
 }

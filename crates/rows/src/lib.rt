@@ -1,4 +1,4 @@
-// The lines of a case text, and its sections. Each function looks at what stands from a up to e.
+// The lines of a case text, and its sections. A check that tells a place looks at what stands from a up to e.
 #![tactic(auto)]
 
 ghost use Rattle.std.specs.Prelude.{◌≡◌, ◌≤◌, length};
@@ -98,27 +98,26 @@ impl Section {
 }
 
 // Whether the field is what w asks.
-fn good(s: &[u8], a: usize, e: usize, w: Want) -> bool
-    requires { (a ≤ e) × (e ≤ length s.now) }
-    ensures { result ≡ good_of w (slice a e s.now) }
+fn good(f: &[u8], w: Want) -> bool
+    ensures { result ≡ good_of w f.now }
 {
     match w {
-        Want::Plain => fields::read_real(s, a, e).is_some(),
-        Want::Stored => fields::real_or_nan(s, a, e).is_some(),
-        Want::Bus => fields::read_bus(s, a, e).is_some(),
-        Want::Kind => fields::is_byte(s, a, e, b'V') || fields::is_byte(s, a, e, b'Q'),
+        Want::Plain => fields::read_real(f).is_some(),
+        Want::Stored => fields::real_or_nan(f).is_some(),
+        Want::Bus => fields::read_bus(f).is_some(),
+        Want::Kind => fields::is_byte(f, b'V') || fields::is_byte(f, b'Q'),
     }
 }
 
-// Whether n fields stand there, none empty, with one space between.
-fn spaced(s: &[u8], a: usize, e: usize, n: usize) -> bool
-    requires { (a ≤ e) × (e ≤ length s.now) }
-    ensures { result ≡ spaced_of 0 n (pieces 32 (slice a e s.now)) }
+// Whether there are n fields, none empty, with one space between.
+fn spaced(f: &[u8], n: usize) -> bool
+    ensures { result ≡ spaced_of 0 n (pieces 32 f.now) }
 {
-    let mut i = a;
+    let e = f.len();
+    let mut i: usize = 0;
     let mut k: usize = 0;
     loop {
-        let q = fields::find(s, i, e, b' ');
+        let q = fields::find(f, i, e, b' ');
         if q == i {
             return false;
         }
@@ -131,12 +130,12 @@ fn spaced(s: &[u8], a: usize, e: usize, n: usize) -> bool
 }
 
 // Whether the line has the form that its section asks.
-fn form(s: &[u8], a: usize, e: usize, z: Section) -> bool
-    requires { (a ≤ e) × (e ≤ length s.now) }
-    ensures { result ≡ form_of z (pieces 32 (slice a e s.now)) }
+fn form(l: &[u8], z: Section) -> bool
+    ensures { result ≡ form_of z (pieces 32 l.now) }
 {
-    let p = fields::find(s, a, e, b' ');
-    p < e && fields::is_byte(s, a, p, z.letter()) && spaced(s, p + 1, e, z.count())
+    let e = l.len();
+    let p = fields::find(l, 0, e, b' ');
+    p < e && fields::is_byte(&l[..p], z.letter()) && spaced(&l[p + 1..], z.count())
 }
 
 // The first wrong field, left to right.
@@ -148,7 +147,7 @@ fn check_fields(s: &[u8], a: usize, e: usize, z: Section) -> Result<(), Fault>
     let mut j: usize = 0;
     loop {
         let q = fields::find(s, i, e, b' ');
-        if !good(s, i, q, z.wanted(j)) {
+        if !good(&s[i..q], z.wanted(j)) {
             return Err(Fault::Field(i));
         }
         if q == e {
@@ -164,7 +163,7 @@ fn check_line(s: &[u8], a: usize, e: usize, z: Section) -> Result<(), Fault>
     requires { (a ≤ e) × (e ≤ length s.now) }
     ensures { result ≡ line_of z a (slice a e s.now) }
 {
-    if !form(s, a, e, z) {
+    if !form(&s[a..e], z) {
         return Err(Fault::Form(a));
     }
     check_fields(s, a + 2, e, z)

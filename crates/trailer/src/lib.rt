@@ -93,7 +93,7 @@ impl<'a> Reader<'a> {
         ensures { result ≡ group_at self.entry.text.now self.entry.at }
     {
         if self.text[self.at] == b' ' {
-            return fields::whole(self.text, self.at + 1, self.at + 6, 0);
+            return fields::whole(&self.text[self.at + 1..self.at + 6], 0);
         }
         None
     }

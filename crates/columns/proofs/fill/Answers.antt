@@ -1,6 +1,7 @@
 -- `columns::fill` meets its contract, by the turns of a column. Assumes nothing.
 use Rattle.std.proofs.Common.{arith}
 use Rattle.std.proofs.lemmas.List.{set-get_or}
+use Rattle.fields.specs.Cut.Laws.{slice-part}
 use Rattle.columns.specs.Columns.{cell_of}
 use Rattle.columns.specs.Columns.Laws.{fill-starts, fill_stops, fill-full, fill-turn}
 use Rattle.columns.proofs.fill.Goals as goal
@@ -18,7 +19,7 @@ pub loop-x-preserved : goal.loop-x-preserved
 loop-x-preserved g c =
     let l = c.loop-x in
     let f = c.find-p in
-    fill-turn _ _ _ _ _ l.i l.x-index l.out l.invariant f.result f.ensures (omega arith) c.cell_at.result c.cell_at.ensures
+    fill-turn _ _ _ _ _ l.i l.x-index l.out l.invariant f.result f.ensures (omega arith) c.cell_at.result (rw (slice-part c.args.s.now l.i f.result f.ensures.low) at c.cell_at.ensures)
 
 pub returns : goal.returns
 returns g c = let l = c.loop-x in fill-full _ _ _ _ _ l.i l.x-index l.out l.invariant (omega arith)

@@ -5,4 +5,4 @@ use Rattle.fields.specs.Cut.{pieces}
 use Rattle.columns.proofs.piece.Given as goal
 
 abbrev pub invariant-loop-k : goal.invariant-loop-k
-invariant-loop-k l = (l.i ≤ l.e) × (get_or (pieces 32 (slice l.i l.e l.s)) (l.n - l._k) [] ≡ get_or (pieces 32 (slice l.a l.e l.s)) l.n [])
+invariant-loop-k l = (l.i ≤ l.e) × (get_or (pieces 32 (slice l.i l.e l.l)) (l.n - l._k) [] ≡ get_or (pieces 32 l.l) l.n [])

@@ -1,38 +1,47 @@
 -- `fields::read_bus` meets its contract: the ways are those of the definition. Assumes nothing.
-use Rattle.std.proofs.Common.{◌≡◌, ℕ, List, ◌+◌, ◌-◌, ◌≤◌, length, ◌∙◌, arith, eq-eqb, ne_eqb, le-leb}
+use Rattle.std.proofs.Common.{◌≡◌, refl, ℕ, List, [], ◌∷◌, None, ◌≤◌, ◌<◌, length, get_or, sym, ◌∙◌, arith, eq-eqb, ne_eqb, le-leb}
 use Rattle.std.proofs.lemmas.Bool.{lt-leb}
 use Rattle.std.proofs.Math.Bool.{and-false}
-use Rattle.std.proofs.Math.Seq.{slice, length-slice}
-use Rattle.fields.specs.Cut.Laws.{slice-step, slice-some, slice-none}
-use Rattle.fields.specs.Digits.{limited_of, digits_of}
+use Rattle.fields.specs.Digits.{limited_of, bus_of}
 use Rattle.fields.specs.Digits.Laws.{limited-short}
 use Rattle.fields.proofs.read_bus.Goals as goal
-use Rattle.fields.proofs.read_bus.Goals.{then-a-e-via-then-a-e, then-a-e-via-else-a-e+then-e-a-gt3, else-s-a-eq48-via-then-s-a-eq48+else-a-e-2, else-s-a-eq48-via-else-s-a-eq48}
+use Rattle.fields.proofs.read_bus.Goals.{then-n-eq0-via-then-n-eq0, then-n-eq0-via-else-n-eq0+then-n-gt3, else-f-eq48-via-then-f-eq48+else-n-gt1, else-f-eq48-via-else-f-eq48}
 
--- so few digits are below the limit
-short : (s : List ℕ) (a e : ℕ) → e ≤ length s → e - a ≤ 3 → limited_of 0 (slice a e s) ≡ digits_of 0 (slice a e s)
-short s a e h k = limited-short (slice a e s) (rw (length-slice a e s h) (omega arith))
+none : (l : List ℕ) → length l ≡ 0 → bus_of l ≡ None
+none [] h = refl
+none (b ∷ r) h = absurd (omega arith)
 
-pub returns-then-a-e : goal.returns-then-a-e
-returns-then-a-e c =
-    let a = c.args in
-    elim c.then-a-e.branch [
-      | then-a-e-via-then-a-e w ↦ rw (slice-none a.s.now a.a a.e w.if-a-e.true)
-      | then-a-e-via-else-a-e+then-e-a-gt3 w ↦ rw (slice-step a.s.now a.a a.e (omega arith) (omega arith), length-slice (a.a + 1) a.e a.s.now (omega arith), lt-leb (a.e - (a.a + 1)) 2 (omega arith))
+long : (l : List ℕ) → 3 < length l → bus_of l ≡ None
+long [] h = absurd (omega arith)
+long (b ∷ r) h = rw (lt-leb (length r) 2 (omega arith))
+
+led : (l : List ℕ) → get_or l 0 0 ≡ 48 → 1 < length l → bus_of l ≡ None
+led [] h k = absurd (omega arith)
+led (b ∷ []) h k = absurd (omega arith)
+led (b ∷ d ∷ r) h k = rw (eq-eqb b 48 h, and-false)
+
+one : (l : List ℕ) → get_or l 0 0 ≡ 48 → length l ≡ 1 → bus_of l ≡ limited_of 0 l
+one [] h k = absurd (omega arith)
+one (b ∷ []) h k = sym (limited-short (b ∷ []) (omega arith) ∙ rw (eq-eqb b 48 h))
+one (b ∷ d ∷ r) h k = absurd (omega arith)
+
+few : (l : List ℕ) → (get_or l 0 0 ≡ 48 → ⊥) → 0 < length l → length l ≤ 3 → bus_of l ≡ limited_of 0 l
+few [] h p k = absurd (omega arith)
+few (b ∷ r) h p k = sym (limited-short (b ∷ r) (omega arith) ∙ rw (le-leb (length r) 2 (omega arith), ne_eqb b 48 h))
+
+pub returns-then-n-eq0 : goal.returns-then-n-eq0
+returns-then-n-eq0 c =
+    elim c.then-n-eq0.branch [
+      | then-n-eq0-via-then-n-eq0 w ↦ sym (none c.args.f.now (omega arith))
+      | then-n-eq0-via-else-n-eq0+then-n-gt3 w ↦ sym (long c.args.f.now (omega arith))
     ]
 
-pub returns-then-a-e-2 : goal.returns-then-a-e-2
-returns-then-a-e-2 c =
-    let a = c.args in
-    rw (slice-step a.s.now a.a a.e (omega arith) (omega arith), slice-some a.s.now (a.a + 1) a.e (omega arith) (omega arith), eq-eqb _ 48 c.if-s-a-eq48.true, and-false)
+pub returns-then-n-gt1 : goal.returns-then-n-gt1
+returns-then-n-gt1 c = sym (led c.args.f.now c.if-f-eq48.true (omega arith))
 
 pub returns : goal.returns
 returns c =
-    let a = c.args in
-    let few = c.whole.ensures ∙ short a.s.now a.a a.e (omega arith) (omega arith) in
-    elim c.else-s-a-eq48.branch [
-      | else-s-a-eq48-via-then-s-a-eq48+else-a-e-2 w ↦
-          few ∙ rw (slice-step a.s.now a.a a.e (omega arith) (omega arith), slice-none a.s.now (a.a + 1) a.e (omega arith), eq-eqb _ 48 w.if-s-a-eq48.true)
-      | else-s-a-eq48-via-else-s-a-eq48 w ↦
-          few ∙ rw (slice-step a.s.now a.a a.e (omega arith) (omega arith), length-slice (a.a + 1) a.e a.s.now (omega arith), le-leb (a.e - (a.a + 1)) 2 (omega arith), ne_eqb _ 48 w.if-s-a-eq48.false)
+    elim c.else-f-eq48.branch [
+      | else-f-eq48-via-then-f-eq48+else-n-gt1 w ↦ c.whole.ensures ∙ sym (one c.args.f.now w.if-f-eq48.true (omega arith))
+      | else-f-eq48-via-else-f-eq48 w ↦ c.whole.ensures ∙ sym (few c.args.f.now w.if-f-eq48.false (omega arith) (omega arith))
     ]

@@ -1,7 +1,7 @@
 -- Laws on a part of a list, cut at a byte: what `find` shows of the place it gives. Assumes nothing.
 use Rattle.std.specs.Prelude.{◌≡◌, refl, true, false, List, [], ◌∷◌, ℕ, suc, ◌+◌, ◌-◌, ◌≤◌, ◌<◌, eqb, length, get_or, take, drop}
 use Rattle.std.proofs.Common.{sym, ap, ◌∙◌, ⊎_elim, add-one, arith, take-take, take-add, drop_at, drop-drop, length-take-le, eq-eqb, ne_eqb, eqb-true}
-use Rattle.std.proofs.lemmas.List.{drop-take, get_or-take, get_or-drop}
+use Rattle.std.proofs.lemmas.List.{drop-take}
 use Rattle.std.proofs.Math.Bool.{and-false}
 use Rattle.std.proofs.Math.Seq.{slice, slice-cons, slice_empty, length-slice}
 use Rattle.real.specs.Tests.{decided, true-false, and_left}
@@ -20,12 +20,9 @@ only-is x (b ∷ c ∷ r) h = absurd (true-false h (and-false (eqb b x)))
 
 -- ---- a part of a list
 
--- the same part, as the code takes it: `s[a..e]`, and a byte of it
+-- the same part, as the code takes it: `s[a..e]`
 pub slice-part : (s : List ℕ) (a e : ℕ) → a ≤ e → take (e - a) (drop a s) ≡ slice a e s
 slice-part s a e h = let q : a + (e - a) ≡ e = omega arith in sym (drop-take a (e - a) s) ∙ ap (λ (n : ℕ). slice a n s) q
-
-pub part-at : (s : List ℕ) (a e i : ℕ) → i < e - a → get_or (take (e - a) (drop a s)) i 0 ≡ get_or s (a + i) 0
-part-at s a e i h = get_or-take (e - a) (drop a s) i 0 h ∙ get_or-drop a s i 0
 
 -- one byte more
 pub slice-step : (s : List ℕ) (i e : ℕ) → i < e → e ≤ length s → slice i e s ≡ get_or s i 0 ∷ slice (i + 1) e s
