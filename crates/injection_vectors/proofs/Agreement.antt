@@ -1,54 +1,38 @@
 -- What the comparisons of the program show of the definitions: the input tells every place, so there is one list, one record and one workspace
 -- to begin from. Assumes nothing.
-use Prim.Native.Nat.{ℕ, ◌+◌, ◌*◌, ◌≤◌, ◌<◌}
-use mathlib.Core.Path.{◌≡◌, refl, sym, ◌∙◌}
-use mathlib.Core.Bool.{Bool}
-use mathlib.Core.List.{List}
-use native.Mathlib.Nat.{le_refl}
-use native.Mathlib.Omega.{arith}
-use lib.ListN.{length, set, length-set, replicate, length-replicate, get_or-replicate}
-use lib.Ieee.{Float, nan}
+use Rattle.std.specs.Prelude.{ℕ, ◌+◌, ◌*◌, ◌≤◌, ◌<◌, ◌≡◌, Bool, List, [], ◌∷◌, length, get_or, take, replicate, Float, Option, Some, None, is_some, true, false, not}
+use Rattle.std.specs.Float.{nan}
+use Rattle.std.proofs.Common.{refl, sym, ◌∙◌, ext_get_or, length-take-le}
+use Rattle.std.proofs.lemmas.List.{length-replicate, get_or-replicate, get_or-take}
 use Rattle.real.specs.Each.{each}
 use Rattle.real.specs.Each.Laws.{length-each, is-each}
+use Rattle.real.specs.First.{first_below}
 use Rattle.real.specs.Literals.{nought}
+use Rattle.real.specs.Tests.{no-case}
 use Rattle.vectors.specs.Words.{Tells}
+use Rattle.vectors.specs.Words.Laws.{never-told}
 use Rattle.network.specs.Below.{Below}
-use Rattle.layout.specs.Table.{stores}
-use Rattle.layout.specs.Table.Laws.{stores-length, stores_at, Stored, stored-none, stored_next, stored-all}
-use Rattle.injections.specs.declared.Column.{Column}
-use Rattle.injections.specs.declared.Injections.{Injections}
+use Rattle.network.specs.Missing.{bus_missing}
+use Rattle.network.specs.Missing.Laws.{nowhere-below, below-nowhere}
 use Rattle.network.specs.Network.{triplets_of}
+use Rattle.layout.specs.Table.{stores}
+use Rattle.layout.specs.Table.Laws.{stores-length, stores_at}
 use Rattle.injections.specs.Injections.{GoodTriplets}
 use Rattle.injection_vectors.specs.Told.{words_told, doubles_told, triplets_told, Zeros, Holds, jacobian_at, Entries}
 
--- ---- lists and records
+-- ---- lists
 
--- a list that is written over whole is what was written, whatever it held
-written_over : {A : Type 0} (f : ℕ → A) (d : A) (l : List A) → stores f (length l) l ≡ each (length l) f
-written_over f d l = is-each (length l) f d (stores f (length l) l) (stores-length f (length l) l) (λ i h. stores_at f (length l) l i d h (le_refl (length l)))
+-- the first n of a list into which n values were stored are these
+pub first_told : {A : Type 0} (f : ℕ → A) (n m : ℕ) (z : A) → n ≤ m → take n (stores f n (replicate m z)) ≡ each n f
+first_told f n m z h =
+    let long : n ≤ length (stores f n (replicate m z)) = rw (stores-length, length-replicate) h in
+    is-each n f z _ (length-take-le n _ long) (λ i p. get_or-take n _ i z p ∙ stores_at f n (replicate m z) i z p (rw length-replicate h))
 
--- a loop that writes f over l has come to place k of `end`: at first, one place further, and at the end
-pub record WritingOver {A : Type 0} (f : ℕ → A) (l : List A) (end k : ℕ) (a : List A) : Type 0 where
-  pub whole : end ≡ length l
-  pub same : length a ≡ length l
-  pub stored : Stored f l (length l) k a
-
-module _ {A : Type 0} {f : ℕ → A} {l : List A} where
-  pub writing-none : WritingOver f l (length l) 0 l
-  writing-none = record { whole = refl; same = refl; stored = stored-none }
-
-  pub writing-next : {end k : ℕ} {a : List A} {v : A} → WritingOver f l end k a → k < end → v ≡ f k → WritingOver f l end (k + 1) (set a k v)
-  writing-next w h e = record { whole = w.whole; same = simp length-set w.same; stored = stored_next w.stored (omega (arith, w.whole)) e }
-
-  pub writing-all : {end k : ℕ} {a : List A} (d : A) → WritingOver f l end k a → end ≤ k → a ≡ each (length l) f
-  writing-all d w h = stored-all w.stored (omega (arith, w.whole)) ∙ written_over f d l
-
-pub column-parts : (c : Column) (x y : List Float) → c.re ≡ x → c.im ≡ y → c ≡ record { re = x; im = y }
-column-parts c x y p q = rw (← p, ← q)
-
-pub injections-parts : (x : Injections) (v i : Column) (p q : List Float) → x.phasors.v ≡ v → x.phasors.i ≡ i → x.power.p ≡ p → x.power.q ≡ q
-    → x ≡ record { phasors = record { v = v; i = i }; power = record { p = p; q = q } }
-injections-parts x v i p q a b c d = rw (← a, ← b, ← c, ← d)
+-- lists of one length that are alike at every place are the same
+pub alike : {A : Type 0} (xs ys : List A) → length xs ≡ length ys → ((d : A) (i : ℕ) → i < length xs → get_or xs i d ≡ get_or ys i d) → xs ≡ ys
+alike [] [] e h = refl
+alike [] (y ∷ ys) e h = no-case cc
+alike (x ∷ xs) ys e h = ext_get_or x (x ∷ xs) ys e (h x)
 
 module _ (s : List ℕ) (m : ℕ) where
   pub ybus-parts : (row col : List ℕ) (re im : List Float)
@@ -80,3 +64,12 @@ one-space {w} {v} a b = is-each 4224 (λ i. nought) nan w a.size a.each ∙ sym 
 pub entries-told : (s : List ℕ) (n m dim : ℕ) (w v : List Float) (r : Bool) → Zeros w → v ≡ jacobian_at s n m dim w → Tells r (Holds v s (m * 32 + n * 80) dim)
     → Tells r (Entries s n m dim)
 entries-told s n m dim w v r z is t = (λ e u y. rw (one-space y z, ← is) (t.0 e), λ h. t.1 (rw is (h w z)))
+
+-- ---- bus numbers
+
+-- no number of a column is missing exactly where each is below n
+pub below-told : (n : ℕ) (l : List ℕ) (r : Option ℕ) (b : Bool) → is_some r ≡ not b → r ≡ first_below (length l) (bus_missing n l) → Tells b (Below n l)
+below-told n l None true q e = (λ h. nowhere-below n l (sym e), λ h. refl)
+below-told n l None false q e = no-case cc
+below-told n l (Some i) true q e = no-case cc
+below-told n l (Some i) false q e = never-told (λ h. let same = e ∙ below-nowhere n l h in no-case cc)

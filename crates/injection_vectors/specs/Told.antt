@@ -9,7 +9,8 @@ use Rattle.layout.specs.declared.AcPfLayout.{AcPfLayout}
 use Rattle.network.specs.Below.{Below}
 use Rattle.layout.specs.Table.{table}
 use Rattle.layout.specs.Layout.{none}
-use Rattle.injections.specs.declared.Column.{Column}
+use Rattle.complex.specs.declared.Complex.{Complex}
+use Rattle.complex.specs.Numbers.{complex, zero}
 use Rattle.injections.specs.declared.Injections.{Injections}
 use Rattle.network.specs.Network.{Triplets, triplets_of}
 use Rattle.injections.specs.Injections.{phasors_of, injections_of}
@@ -36,8 +37,12 @@ table_told s from n = table n nought (double_told s from)
 abbrev pub columns_told : List ℕ → ℕ → ℕ → List ℕ
 columns_told s from n = table n none (word_told s from)
 
-abbrev pub column_told : List ℕ → ℕ → ℕ → Column
-column_told s from n = record { re = table_told s from n; im = table_told s (from + n * 8) n }
+-- the real parts of all n come first, then the imaginary parts
+abbrev pub complex_told : List ℕ → ℕ → ℕ → ℕ → Complex
+complex_told s from n b = complex (double_told s from b) (double_told s (from + n * 8) b)
+
+abbrev pub column_told : List ℕ → ℕ → ℕ → List Complex
+column_told s from n = table n zero (complex_told s from n)
 
 abbrev pub layout_told : List ℕ → ℕ → ℕ → ℕ → AcPfLayout
 layout_told s from n dim =

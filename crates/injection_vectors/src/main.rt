@@ -2,118 +2,151 @@
 // says (oracle/injection_vectors.py has the format).
 #![tactic(auto)]
 
-ghost use Rattle.std.specs.Prelude.{◌≡◌, ◌+◌, ◌*◌, ◌≤◌, ◌<◌, length};
+ghost use Rattle.std.specs.Prelude.{◌≡◌, ℕ, ◌+◌, ◌*◌, ◌≤◌, ◌<◌, List, length, get_or, replicate};
 ghost use Rattle.network.specs.Below.{Below};
-ghost use Rattle.network.specs.Network.{triplets_of};
+ghost use Rattle.network.specs.Columns.{triplets_in};
+ghost use Rattle.layout.specs.Table.{stores};
 ghost use Rattle.injections.specs.Injections.{GoodTriplets};
 ghost use Rattle.vectors.specs.Words.{word_of, Tells, Found};
-ghost use Rattle.injection_vectors.specs.Told.{words_told, doubles_told, table_told, columns_told, column_told, layout_told, injections_told};
+ghost use Rattle.injection_vectors.specs.Told.{word_told, double_told, complex_told, layout_told, vm_told, va_told, injections_told};
 ghost use Rattle.injection_vectors.specs.Told.{triplets_told, place_told, Holds, Fits, injections_at, jacobian_at, Entries, Agrees};
 
-use injections::{Column, Injections};
-use layout::AcPfLayout;
-use real::First;
+use complex::Complex;
+use injections::Injections;
+use layout::{AcPfLayout, Point};
+use network::TripletColumns;
 use vectors::STDIN_FILENO;
+
+// A point of the input: its bytes, how many buses and triplets it has, and the dimension of its layout.
+#[derive(Clone, Copy)]
+struct Record<'a> {
+    s: &'a [u8],
+    n: usize,
+    m: usize,
+    dim: usize,
+}
 
 // ---- what is told
 
-fn doubles_into(out: &mut [f64], s: &[u8], from: usize)
-    requires { from + length out.old * 8 ≤ length s.now }
-    ensures { out.new ≡ doubles_told s.now from (length out.old) }
-{
-    for k in 0..out.len() {
-        out[k] = vectors::double_at(s, from + k * 8);
+// What a list of the input holds.
+trait Value: Copy {
+    // How many words of the input say one, and which of them stand for number k of the n whose list begins at a byte.
+    ghost words: { ℕ };
+
+    ghost told: { List ℕ → ℕ → ℕ → ℕ → Self };
+
+    fn at(s: &[u8], from: usize, n: usize, k: usize) -> Self
+        requires { (k < n) × (from + n * (words * 8) ≤ length s.now) }
+        ensures { result ≡ told s.now from n k };
+}
+
+impl Value for usize {
+    ghost words = { 1 };
+
+    ghost told = { λ s from n k. word_told s from k };
+
+    fn at(s: &[u8], from: usize, _n: usize, k: usize) -> usize {
+        vectors::word(s, from + k * 8) as usize
     }
 }
 
-fn numbers_into(out: &mut [usize], s: &[u8], from: usize)
-    requires { from + length out.old * 8 ≤ length s.now }
-    ensures { out.new ≡ words_told s.now from (length out.old) }
-{
-    for k in 0..out.len() {
-        out[k] = vectors::word(s, from + k * 8) as usize;
+impl Value for f64 {
+    ghost words = { 1 };
+
+    ghost told = { λ s from n k. double_told s from k };
+
+    fn at(s: &[u8], from: usize, _n: usize, k: usize) -> f64 {
+        vectors::double_at(s, from + k * 8)
     }
 }
 
-fn doubles(s: &[u8], from: usize, n: usize) -> [f64; 32]
-    requires { (n ≤ 32) × (from + n * 8 ≤ length s.now) }
-    ensures { result ≡ table_told s.now from n }
+// The real parts of all n come first, then the imaginary parts.
+impl Value for Complex {
+    ghost words = { 2 };
+
+    ghost told = { complex_told };
+
+    fn at(s: &[u8], from: usize, n: usize, k: usize) -> Complex {
+        let re = vectors::double_at(s, from + k * 8);
+        let im = vectors::double_at(s, from + n * 8 + k * 8);
+        Complex::new(re, im)
+    }
+}
+
+// A list of n in the first of N places; `rest` stands in the others.
+fn told<T: Value, const N: usize>(s: &[u8], from: usize, n: usize, rest: T) -> [T; N]
+    requires { (n ≤ N) × (from + n * (T.words * 8) ≤ length s.now) }
+    ensures { result ≡ stores (T.told s.now from n) n (replicate N rest) }
 {
-    let mut out = [0.0; 32];
-    for b in 0..n {
-        out[b] = vectors::double_at(s, from + b * 8);
+    let mut out = [rest; N];
+    for k in 0..n {
+        out[k] = T::at(s, from, n, k);
     }
     out
 }
 
-fn columns(s: &[u8], from: usize, n: usize) -> [usize; 32]
-    requires { (n ≤ 32) × (from + n * 8 ≤ length s.now) }
-    ensures { result ≡ columns_told s.now from n }
+// The magnitudes and angles.
+fn voltages(r: Record) -> Point
+    requires { Fits r.s.now r.n r.m r.dim }
+    ensures { let r = r.entry in result ≡ record { vm = vm_told r.s.now r.n r.m; va = va_told r.s.now r.n r.m } }
 {
-    let mut out = [layout::NONE; 32];
-    for b in 0..n {
-        out[b] = vectors::word(s, from + b * 8) as usize;
+    Point {
+        vm: told(r.s, r.m * 32, r.n, 0.0),
+        va: told(r.s, r.m * 32 + r.n * 8, r.n, 0.0),
     }
-    out
 }
 
-fn layout_at(s: &[u8], from: usize, n: usize, dim: usize) -> AcPfLayout
-    requires { (n ≤ 32) × (from + n * 16 ≤ length s.now) }
-    ensures { result ≡ layout_told s.now from n dim }
+fn layout_at(r: Record) -> AcPfLayout
+    requires { Fits r.s.now r.n r.m r.dim }
+    ensures { let r = r.entry in result ≡ layout_told r.s.now (r.m * 32 + r.n * 16) r.n r.dim }
 {
-    let va_of = columns(s, from, n);
-    let vm_of = columns(s, from + n * 8, n);
     AcPfLayout {
-        n,
-        va_of,
-        vm_of,
-        dim,
+        n: r.n,
+        va_of: told(r.s, r.m * 32 + r.n * 16, r.n, layout::NONE),
+        vm_of: told(r.s, r.m * 32 + r.n * 16 + r.n * 8, r.n, layout::NONE),
+        dim: r.dim,
     }
 }
 
 // ---- comparing
 
-fn equal(xs: [f64; 32], ys: [f64; 32]) -> bool
+// What is compared: the same value, not only an equal one.
+trait Same: Copy {
+    fn same(self, other: Self) -> bool
+        ensures { Tells result (self ≡ other) };
+}
+
+impl Same for f64 {
+    fn same(self, other: f64) -> bool {
+        vectors::same(self, other)
+    }
+}
+
+impl Same for Complex {
+    fn same(self, other: Complex) -> bool {
+        vectors::same(self.re, other.re) & vectors::same(self.im, other.im)
+    }
+}
+
+fn equal<T: Same>(xs: [T; 32], ys: [T; 32]) -> bool
     ensures { Tells result (xs ≡ ys) }
 {
-    for b in 0..32usize {
-        if !vectors::same(xs[b], ys[b]) {
+    for (b, &x) in xs.iter().enumerate() {
+        if !x.same(ys[b]) {
             return false;
         }
     }
     true
 }
 
-fn column_told(c: Column, s: &[u8], from: usize, n: usize) -> bool
-    requires { (n ≤ 32) × (from + n * 16 ≤ length s.now) }
-    ensures { Tells result (c ≡ column_told s.now from n) }
-{
-    let re = c.re;
-    let im = c.im;
-    if !equal(re, doubles(s, from, n)) {
-        return false;
-    }
-    equal(im, doubles(s, from + n * 8, n))
-}
-
 fn injections_told(x: Injections, s: &[u8], from: usize, n: usize) -> bool
     requires { (n ≤ 32) × (from + n * 48 ≤ length s.now) }
     ensures { Tells result (x ≡ injections_told s.now from n) }
 {
-    let phasors = x.phasors;
-    let power = x.power;
-    let p = power.p;
-    let q = power.q;
-    if !column_told(phasors.v, s, from, n) {
-        return false;
-    }
-    if !column_told(phasors.i, s, from + n * 16, n) {
-        return false;
-    }
-    if !equal(p, doubles(s, from + n * 32, n)) {
-        return false;
-    }
-    equal(q, doubles(s, from + n * 40, n))
+    equal(x.phasors.v, told(s, from, n, Complex::ZERO))
+        & equal(x.phasors.i, told(s, from + n * 16, n, Complex::ZERO))
+        & equal(x.power.p, told(s, from + n * 32, n, 0.0))
+        & equal(x.power.q, told(s, from + n * 40, n, 0.0))
 }
 
 // The place i of the workspace: the block of dim rows and columns is told, row by row; every other is 0.0.
@@ -137,8 +170,8 @@ fn space_told(w: &[f64], s: &[u8], from: usize, dim: usize) -> bool
     requires { (length w.now ≡ 4224) × (dim ≤ 64) × (from + dim * dim * 8 ≤ length s.now) }
     ensures { Tells result (Holds w.now s.now from dim) }
 {
-    for i in 0..4224usize {
-        if !vectors::same(w[i], place(s, from, dim, i)) {
+    for (i, &x) in w.iter().enumerate() {
+        if !vectors::same(x, place(s, from, dim, i)) {
             return false;
         }
     }
@@ -147,138 +180,67 @@ fn space_told(w: &[f64], s: &[u8], from: usize, dim: usize) -> bool
 
 // ---- a point
 
-fn injections_agree(
-    s: &[u8],
-    n: usize,
-    m: usize,
-    dim: usize,
-    row: &[usize],
-    col: &[usize],
-    re: &[f64],
-    im: &[f64],
-) -> bool
-    requires { Fits s.now n m dim × (triplets_of row.now col.now re.now im.now ≡ triplets_told s.now m) × GoodTriplets n (triplets_told s.now m) }
-    ensures { Tells result (injections_at s.now n m ≡ injections_told s.now (m * 32 + n * 32) n) }
+fn injections_agree(r: Record, y: TripletColumns) -> bool
+    requires { Fits r.s.now r.n r.m r.dim × (triplets_in y ≡ triplets_told r.s.now r.m) × GoodTriplets r.n (triplets_told r.s.now r.m) }
+    ensures { let r = r.entry in Tells result (injections_at r.s.now r.n r.m ≡ injections_told r.s.now (r.m * 32 + r.n * 32) r.n) }
 {
-    let vm = doubles(s, m * 32, n);
-    let va = doubles(s, m * 32 + n * 8, n);
-    let found = injections::ac_injections(n, row, col, re, im, vm, va);
-    injections_told(found, s, m * 32 + n * 32, n)
+    let found = injections::ac_injections(r.n, y, voltages(r));
+    injections_told(found, r.s, r.m * 32 + r.n * 32, r.n)
 }
 
-fn jacobian_at(
-    w: &mut [f64],
-    s: &[u8],
-    n: usize,
-    m: usize,
-    dim: usize,
-    row: &[usize],
-    col: &[usize],
-    re: &[f64],
-    im: &[f64],
-)
-    requires { (4160 ≤ length w.old) × Fits s.now n m dim × (triplets_of row.now col.now re.now im.now ≡ triplets_told s.now m) × GoodTriplets n (triplets_told s.now m) }
-    ensures { w.new ≡ jacobian_at s.now n m dim w.old }
+fn jacobian_at(w: &mut [f64], r: Record, y: TripletColumns)
+    requires { (4160 ≤ length w.old) × Fits r.s.now r.n r.m r.dim × (triplets_in y ≡ triplets_told r.s.now r.m) × GoodTriplets r.n (triplets_told r.s.now r.m) }
+    ensures { let r = r.entry in w.new ≡ jacobian_at r.s.now r.n r.m r.dim w.old }
 {
-    let vm = doubles(s, m * 32, n);
-    let va = doubles(s, m * 32 + n * 8, n);
-    let layout = layout_at(s, m * 32 + n * 16, n, dim);
-    let phasors = injections::bus_phasors(n, row, col, re, im, vm, va);
-    injections::ac_jacobian(n, row, col, re, im, va, phasors, layout, w);
+    let p = voltages(r);
+    let phasors = injections::bus_phasors(r.n, y, p);
+    injections::ac_jacobian(r.n, y, p.va, phasors, layout_at(r), w);
 }
 
-fn jacobian_agrees(
-    s: &[u8],
-    n: usize,
-    m: usize,
-    dim: usize,
-    row: &[usize],
-    col: &[usize],
-    re: &[f64],
-    im: &[f64],
-) -> bool
-    requires { Fits s.now n m dim × (triplets_of row.now col.now re.now im.now ≡ triplets_told s.now m) × GoodTriplets n (triplets_told s.now m) }
-    ensures { Tells result (Entries s.now n m dim) }
+fn jacobian_agrees(r: Record, y: TripletColumns) -> bool
+    requires { Fits r.s.now r.n r.m r.dim × (triplets_in y ≡ triplets_told r.s.now r.m) × GoodTriplets r.n (triplets_told r.s.now r.m) }
+    ensures { let r = r.entry in Tells result (Entries r.s.now r.n r.m r.dim) }
 {
-    let mut space = [0.0; 4224];
-    let w: &mut [f64] = &mut space;
-    jacobian_at(w, s, n, m, dim, row, col, re, im);
-    space_told(w, s, m * 32 + n * 80, dim)
+    let mut w = [0.0; 4224];
+    jacobian_at(&mut w, r, y);
+    space_told(&w, r.s, r.m * 32 + r.n * 80, r.dim)
 }
 
 // Whether each number of a column is below n.
 fn below(n: usize, l: &[usize]) -> bool
     ensures { Tells result (Below n l.now) }
 {
-    let found = network::first_missing(n, l);
-    match found {
-        First::At(_) => false,
-        First::Nowhere => true,
-    }
+    network::first_missing(n, l).is_none()
 }
 
-fn agrees(
-    s: &[u8],
-    n: usize,
-    m: usize,
-    dim: usize,
-    row: &[usize],
-    col: &[usize],
-    re: &[f64],
-    im: &[f64],
-) -> bool
-    requires { Fits s.now n m dim × (triplets_of row.now col.now re.now im.now ≡ triplets_told s.now m) }
-    ensures { Tells result (Agrees s.now n m dim) }
+fn agrees(r: Record, y: TripletColumns) -> bool
+    requires { Fits r.s.now r.n r.m r.dim × (triplets_in y ≡ triplets_told r.s.now r.m) }
+    ensures { let r = r.entry in Tells result (Agrees r.s.now r.n r.m r.dim) }
 {
-    if !below(n, row) {
+    let named = below(r.n, y.row) & below(r.n, y.col);
+    if !named {
         return false;
     }
-    if !below(n, col) {
-        return false;
-    }
-    if !injections_agree(s, n, m, dim, row, col, re, im) {
-        return false;
-    }
-    jacobian_agrees(s, n, m, dim, row, col, re, im)
+    injections_agree(r, y) && jacobian_agrees(r, y)
 }
 
-fn told_agrees(
-    s: &[u8],
-    n: usize,
-    m: usize,
-    dim: usize,
-    row: &mut [usize],
-    col: &mut [usize],
-    re: &mut [f64],
-    im: &mut [f64],
-) -> bool
-    requires { Fits s.now n m dim × (length row.old ≡ m) × (length col.old ≡ m) × (length re.old ≡ m) × (length im.old ≡ m) }
-    ensures { Tells result (Agrees s.now n m dim) }
+fn point(r: Record) -> bool
+    requires { Fits r.s.now r.n r.m r.dim }
+    ensures { let r = r.entry in Tells result (Agrees r.s.now r.n r.m r.dim) }
 {
-    numbers_into(row, s, 0);
-    numbers_into(col, s, m * 8);
-    doubles_into(re, s, m * 16);
-    doubles_into(im, s, m * 24);
-    agrees(s, n, m, dim, row, col, re, im)
-}
-
-fn point(s: &[u8], n: usize, m: usize, dim: usize) -> bool
-    requires { Fits s.now n m dim }
-    ensures { Tells result (Agrees s.now n m dim) }
-{
-    let mut row = [0usize; 256];
-    let mut col = [0usize; 256];
-    let mut re = [0.0; 256];
-    let mut im = [0.0; 256];
-    told_agrees(
-        s,
-        n,
-        m,
-        dim,
-        &mut row[..m],
-        &mut col[..m],
-        &mut re[..m],
-        &mut im[..m],
+    let m = r.m;
+    let row: [usize; 256] = told(r.s, 0, m, 0);
+    let col: [usize; 256] = told(r.s, m * 8, m, 0);
+    let re: [f64; 256] = told(r.s, m * 16, m, 0.0);
+    let im: [f64; 256] = told(r.s, m * 24, m, 0.0);
+    agrees(
+        r,
+        TripletColumns {
+            row: &row[..m],
+            col: &col[..m],
+            re: &re[..m],
+            im: &im[..m],
+        },
     )
 }
 
@@ -304,7 +266,7 @@ fn next(head: &mut [u8; 24], body: &mut [u8; 43520]) -> Option<bool>
     if !vectors::read(STDIN_FILENO, body, m * 32 + n * 80 + dim * dim * 8) {
         return None;
     }
-    Some(point(body, n, m, dim))
+    Some(point(Record { s: body, n, m, dim }))
 }
 
 fn main() {

@@ -1,8 +1,7 @@
--- `injection_vectors::agrees` meets its contract, by its four comparisons. Assumes nothing.
-use mathlib.Core.Path.{◌≡◌, ap}
-use mathlib.Core.Bool.{Bool, true}
-use mathlib.Core.List.{List}
-use Prim.Native.Nat.{ℕ, ◌≤◌}
+-- `injection_vectors::agrees` meets its contract, by its comparisons. Assumes nothing.
+use Rattle.std.specs.Prelude.{ℕ, ◌≤◌, ◌≡◌, Bool, true, List, ◌&&◌}
+use Rattle.std.proofs.Common.{ap}
+use Rattle.real.specs.Tests.{and_left, and_right}
 use Rattle.vectors.specs.Words.{Tells}
 use Rattle.network.specs.Below.{Below}
 use Rattle.network.specs.Network.{Triplets}
@@ -12,22 +11,17 @@ use Rattle.injection_vectors.proofs.Agreement.{good}
 use Rattle.injection_vectors.proofs.agrees.Goals as goal
 
 -- the rows and columns that were compared are those told
-module _ (s : List ℕ) (n m : ℕ) {y : Triplets} (is : y ≡ triplets_told s m) where
-  rows_told : {b : Bool} → Tells b (Below n y.row) → Tells b (Below n (triplets_told s m).row)
-  rows_told t = rw (ap (λ (x : Triplets). x.row) is) at t
-
-  cols_told : {b : Bool} → Tells b (Below n y.col) → Tells b (Below n (triplets_told s m).col)
-  cols_told t = rw (ap (λ (x : Triplets). x.col) is) at t
-
-  checked : {a b : Bool} → n ≤ 32 → Tells a (Below n y.row) → a ≡ true → Tells b (Below n y.col) → b ≡ true → GoodTriplets n (triplets_told s m)
-  checked few p h q k = good _ _ _ few ((rows_told p).0 h) ((cols_told q).0 k)
+checked : (s : List ℕ) (n m : ℕ) (y : Triplets) (a b : Bool) → y ≡ triplets_told s m → n ≤ 32 → Tells a (Below n y.row) → Tells b (Below n y.col) → a && b ≡ true
+    → GoodTriplets n (triplets_told s m)
+checked s n m y a b is few p q h =
+    good s m n few (rw (← ap (λ (x : Triplets). x.row) is) (p.0 (and_left a b h))) (rw (← ap (λ (x : Triplets). x.col) is) (q.0 (and_right a b h)))
 
 -- ---- the goals
 
 pub injections_agree-requires : goal.injections_agree-requires
 injections_agree-requires c =
-    (c.requires.0, c.requires.1, checked _ _ _ c.requires.1 c.requires.0.few c.below.ensures c.if-not-below.false c.below-2.ensures c.if-not-below-2.false)
+    (c.requires.0, c.requires.1, checked _ _ _ _ _ _ c.requires.1 c.requires.0.few c.below.ensures c.below-2.ensures c.if-not-named.false)
 
 pub jacobian_agrees-requires : goal.jacobian_agrees-requires
 jacobian_agrees-requires c =
-    (c.requires.0, c.requires.1, checked _ _ _ c.requires.1 c.requires.0.few c.below.ensures c.if-not-below.false c.below-2.ensures c.if-not-below-2.false)
+    (c.requires.0, c.requires.1, checked _ _ _ _ _ _ c.requires.1 c.requires.0.few c.below.ensures c.below-2.ensures c.if-not-named.false)
