@@ -3,7 +3,7 @@ use Rattle.std.proofs.Common.{◌≤◌, leb, get_or, length, sym, ap, ◌∙◌
 use Rattle.std.proofs.Math.Seq.{take-length}
 use Rattle.real.specs.Tests.{and_right}
 use Rattle.fields.specs.Digits.{limited_of}
-use Rattle.fields.specs.Digits.Laws.{limited-not, limited-full, limited-on, limited-end}
+use Rattle.fields.specs.Digits.Laws.{not_digit_ends, limited-full, digit_goes_on, limited-end}
 use Rattle.fields.proofs.whole.Goals as goal
 
 pub loop-b-init : goal.loop-b-init
@@ -13,7 +13,7 @@ pub returns-then-not-is_ascii_digit : goal.returns-then-not-is_ascii_digit
 returns-then-not-is_ascii_digit c =
     let f = c.args.f.now in
     let l = c.loop-b in
-    sym (limited-not f l.b-index (length f) l.m (omega arith) (omega arith) (sym c.is_ascii_digit.ensures.value ∙ c.if-not-is_ascii_digit.true)) ∙ l.invariant.1
+    sym (not_digit_ends f l.b-index (length f) l.m (omega arith) (omega arith) (sym c.is_ascii_digit.ensures.value ∙ c.if-not-is_ascii_digit.true)) ∙ l.invariant.1
 
 pub returns-then-m-gt99999999999999 : goal.returns-then-m-gt99999999999999
 returns-then-m-gt99999999999999 c =
@@ -27,7 +27,7 @@ loop-b-preserved c =
     let l = c.loop-b in
     let d = sym c.is_ascii_digit.ensures.value ∙ c.if-not-is_ascii_digit.false in
     let high : get_or f l.b-index 0 ≤ 57 = leb-true _ 57 (and_right (leb 48 (get_or f l.b-index 0)) _ d) in
-    (omega arith, sym (limited-on f l.b-index (length f) l.m (omega arith) (omega arith) d) ∙ l.invariant.1)
+    (omega arith, sym (digit_goes_on f l.b-index (length f) l.m (omega arith) (omega arith) d) ∙ l.invariant.1)
 
 pub returns : goal.returns
 returns c =

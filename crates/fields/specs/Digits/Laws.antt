@@ -5,7 +5,7 @@ use Rattle.std.proofs.Common.{sym, ◌∙◌, ⊎_elim, arith, mul_assoc, mul-le
 use Rattle.std.proofs.Math.Bool.{and-false}
 use Rattle.std.proofs.Math.Nat.{pow-succ', pow-le-pow_right}
 use Rattle.std.proofs.Math.Seq.{slice, slice_empty}
-use borrow.Author.Tests.{eqb-true, eqb-false, le-leb, leb-true, leb-false, lt-ltb, le-ltb, ltb-true, ltb-false}
+use borrow.Author.Tests.{eqb-true, eqb-false, le-leb, leb-true, leb-false, lt-ltb, le-ltb, ltb-true, ltb-false, lt-leb}
 use Rattle.real.specs.Tests.{decided, no-case, and_left, and_right}
 use Rattle.fields.specs.Cut.Laws.{slice-step}
 use Rattle.fields.specs.Digits.{limited_of, digits_of, digits, digit, number, counted}
@@ -13,13 +13,22 @@ use Rattle.fields.specs.Digits.{limited_of, digits_of, digits, digit, number, co
 -- ---- from a place on: a byte that is no digit, a digit too many, a digit, the end
 
 module _ (s : List ℕ) (i e m : ℕ) (h : i < e) (k : e ≤ length s) where
-  pub limited-not : digit (get_or s i 0) ≡ false → limited_of m (slice i e s) ≡ None
+  pub not_digit_ends : digit (get_or s i 0) ≡ false → limited_of m (slice i e s) ≡ None
   unfolding digits
-  limited-not q = rw (slice-step s i e h k, q)
+  not_digit_ends q = rw (slice-step s i e h k, q)
 
-  pub limited-on : digit (get_or s i 0) ≡ true → limited_of m (slice i e s) ≡ limited_of (m * 10 + (get_or s i 0 - 48)) (slice (i + 1) e s)
+  pub limited-low : get_or s i 0 < 48 → limited_of m (slice i e s) ≡ None
+  limited-low q = not_digit_ends (rw (lt-leb 48 (get_or s i 0) q))
+
+  pub limited-high : 57 < get_or s i 0 → limited_of m (slice i e s) ≡ None
+  limited-high q = not_digit_ends (rw (le-leb 48 (get_or s i 0) (omega arith), lt-leb (get_or s i 0) 57 q))
+
+  pub digit_goes_on : digit (get_or s i 0) ≡ true → limited_of m (slice i e s) ≡ limited_of (m * 10 + (get_or s i 0 - 48)) (slice (i + 1) e s)
   unfolding digits number
-  limited-on q = rw (slice-step s i e h k, q)
+  digit_goes_on q = rw (slice-step s i e h k, q)
+
+  pub limited-on : 48 ≤ get_or s i 0 → get_or s i 0 ≤ 57 → limited_of m (slice i e s) ≡ limited_of (m * 10 + (get_or s i 0 - 48)) (slice (i + 1) e s)
+  limited-on q r = digit_goes_on (rw (le-leb 48 (get_or s i 0) q, le-leb (get_or s i 0) 57 r))
 
 pub limited-end : (s : List ℕ) (i e m : ℕ) → e ≤ i → i ≤ e → m < 10 ^ 15 → limited_of m (slice i e s) ≡ Some m
 unfolding digits number

@@ -1,4 +1,5 @@
 -- Bytes after bytes, digits, and the parts of a refusal. Assumes nothing.
+use Rattle.std.proofs.Math.Seq.{length-take-le, take-suc}
 use Rattle.std.specs.Prelude.{ℕ, zero, suc, ◌+◌, ◌*◌, ◌/◌, ◌%◌, ◌^◌, ◌-◌, ◌≤◌, ◌<◌, ◌≡◌, refl, Bool, true, false, cond, leb, ltb, length, get_or, set, take, Float}
 use Rattle.std.proofs.Common.{sym, ◌∙◌, pow-suc, mod-eq_of_lt, arith, leb-true, leb-false, lt-ltb, le-ltb, length-append}
 use Rattle.std.proofs.Math.Path.{ap}
@@ -26,8 +27,20 @@ then {l} {m} {n} {a} {b} {at} {k} {r} u v = record {
   left = v.left ∙ rw (u.left, u.ends) (sets-append a b l at);
 }
 
+pub exactly : {l m a : List ℕ} {at k : ℕ} → Wrote l at a k m → Wrote l at a k m × (k ≤ at + length a)
+exactly u = (u, omega (arith, u.ends))
+
+pub within : {l m n a b : List ℕ} {at k r : ℕ} (i j : ℕ) → Wrote l at a k m × (k ≤ at + i) → Wrote m k b r n × (r ≤ k + j) → Wrote l at (a ++ b) r n × (r ≤ at + (i + j))
+within i j u v = (then u.0 v.0, omega (arith, u.1, v.1))
+
 pub same_bytes : {l m a b : List ℕ} {at r : ℕ} → a ≡ b → Wrote l at a r m → Wrote l at b r m
 same_bytes e w = rw (← e) w
+
+-- one byte more of a source
+pub one_more : (s l : List ℕ) (at i : ℕ) → i < length s → set (sets l at (take i s)) (at + i) (get_or s i 0) ≡ sets l at (take (suc i) s)
+one_more s l at i h =
+    let e : length (take i s) ≡ i = length-take-le i s (omega arith) in
+    rw (take-suc s i 0 h) (rw e at (sets-append (take i s) (get_or s i 0 ∷ []) l at))
 
 -- ---- decimals
 

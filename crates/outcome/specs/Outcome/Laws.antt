@@ -1,6 +1,9 @@
 -- What the room tells, the columns and the workspace as they are written, and that 01's numbers and values tell the answers apart. Assumes nothing.
-use Rattle.std.specs.Prelude.{ℕ, ◌≤◌, true, false, cond, Result, Ok, Err, List, [], ◌∷◌, ◌++◌, take, drop, ◌≡◌, refl, length, eqb, Float}
-use Rattle.std.proofs.Common.{sym, ap, ◌∙◌, leb-true}
+use Rattle.std.proofs.lemmas.List.{length-replicate, get_or-replicate}
+use Rattle.real.specs.Literals.{nought}
+use Rattle.layout.specs.Table.{stores}
+use Rattle.std.specs.Prelude.{ℕ, ◌≤◌, true, false, cond, Result, Ok, Err, List, [], ◌∷◌, ◌++◌, take, drop, ◌≡◌, refl, length, eqb, Float, ◌<◌, replicate}
+use Rattle.std.proofs.Common.{sym, ap, ◌∙◌, leb-true, le_refl, ext_get_or}
 use Rattle.std.specs.Float.{nan}
 use Rattle.real.specs.Tests.{both_l, both_r}
 use Rattle.real.specs.declared.Value.{Value}
@@ -9,14 +12,14 @@ use Rattle.real.specs.Paper.{place_in, Paper, given, refused, is_given}
 use Rattle.network.specs.Network.{Triplets}
 use Rattle.layout.specs.declared.BusKind.{BusKind}
 use Rattle.layout.specs.declared.Point.{Point}
-use Rattle.layout.specs.Table.Laws.{stored-taken}
+use Rattle.layout.specs.Table.Laws.{stored-taken, stores-length, stores_at}
 use Rattle.injections.specs.declared.Injections.{Injections}
 use Rattle.injections.specs.Injections.{injections_of}
 use Rattle.moves.specs.Moves.{letters_of}
 use Rattle.outcome.specs.declared.Solved.{Solved}
 use Rattle.outcome.specs.declared.Refusal.{Refusal}
 use Rattle.outcome.specs.declared.Refusal.TheVariants.{Counts, Room, Slack, Generator, Branch, Triplet, Tap, Ends, NotConverged}
-use Rattle.outcome.specs.Outcome.{paper_of, refusal_paper, Outs, outs, lengths_in, Lengths, OnePerBus, roomy, with_answer}
+use Rattle.outcome.specs.Outcome.{paper_of, refusal_paper, Outs, outs, lengths_in, Lengths, OnePerBus, roomy, with_answer, zeros}
 
 -- ---- the room
 
@@ -63,6 +66,13 @@ answer-written n y point kept o found ef letters el room lm la lp lq lk vm va p 
       el,
       ef,
     )
+
+-- a workspace written over with +0.0, place by place
+pub zeros-are : (w : List Float) → stores (λ b. nought) (length w) w ≡ zeros w
+unfolding zeros
+zeros-are w =
+    ext_get_or nought (stores (λ b. nought) (length w) w) (replicate (length w) nought) (simp (stores-length, length-replicate))
+    (λ i h. let p : i < length w = rw stores-length at h in stores_at (λ b. nought) (length w) w i nought p (le_refl (length w)) ∙ sym (get_or-replicate (length w) i nought nought p))
 
 -- ---- the answer on paper
 
