@@ -132,15 +132,3 @@ branch_table_marks m =
 -- the reader's definition gives what the record says of the text
 abbrev pub Agrees : List ℕ → List ℕ → Type 0
 Agrees text s = read_of text (columns_of (network_marks (width_told s)) (branch_table_marks (width_told s))) ≡ outcome_told s
-
--- ---- all but the table of branches
-
-abbrev pub table_in : ReadResult Columns → BranchTable
-table_in (read_result p c) = c.table
-
-abbrev pub with_table : BranchTable → ReadResult Columns → ReadResult Columns
-with_table t (read_result p c) = read_result p (columns_of c.network t)
-
--- a reading is what the record says, once it has the table that the record says
-unfoldable pub RestAgrees : List ℕ → ReadResult Columns → Type 0
-RestAgrees s o = with_table (branch_table_told s) o ≡ outcome_told s

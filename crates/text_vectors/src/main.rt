@@ -2,18 +2,25 @@
 // (oracle/text_vectors.py has the format). Before each reading a column holds a mark in every place, and it must still do so past the rows.
 #![tactic(auto)]
 
-ghost use Rattle.std.specs.Prelude.{◌≡◌, ◌+◌, ◌*◌, ◌≤◌, ◌<◌, take};
+ghost use Rattle.std.specs.Prelude.{◌≡◌, ℕ, ◌+◌, ◌*◌, ◌≤◌, ◌<◌, take};
+ghost use Rattle.std.specs.Float.{binary64};
+ghost use Rattle.std.specs.Float.Ieee.{of_bits};
 ghost use Rattle.vectors.specs.Words.{pair_of, Tells, Found};
-ghost use Rattle.network.specs.Network.{buses_of, slacks_of, generators_of, branches_of, triplets_of, first_buses, first_slacks, first_generators, first_branches, first_triplets};
-ghost use Rattle.network.specs.BranchTable.{values_of, branch_table_of, first_values};
+ghost use Rattle.network.specs.Columns.{buses_in, slacks_in, generators_in, branches_in, triplets_in, values_in, network_lent, branch_table_lent};
 ghost use Rattle.trailer.specs.Trailer.{flat_letter, mode_of};
+ghost use Rattle.real.specs.Each.{each};
 ghost use Rattle.real.specs.Paper.{given, place_in};
 ghost use Rattle.case_text.specs.Answer.{refusal_number, refusal_values, paper_of};
 ghost use Rattle.reader.specs.Reader.{columns_of, read_of};
-ghost use Rattle.text_vectors.specs.Told.{refusal, rows_in, branch_rows, triplet_rows, rows_told, edition_by, paper_told, width_told, word_told, numbers_told, reals_told};
-ghost use Rattle.text_vectors.specs.Told.{buses_told, slacks_told, generators_told, branches_told, triplets_told, values_told, network_marks, Agrees, table_in, RestAgrees};
+ghost use Rattle.text_vectors.specs.Told.{refusal, rows_in, branch_rows, triplet_rows, rows_told, edition_by, paper_told, width_told, word_told};
+ghost use Rattle.text_vectors.specs.Told.{buses_told, slacks_told, generators_told, branches_told, triplets_told, values_told, outcome_told, Agrees};
 
 use case_text::{Contents, Refusal};
+use network::{
+    BranchColumns, BranchColumnsMut, BranchTableMut, BusColumns, BusColumnsMut, GeneratorColumns,
+    GeneratorColumnsMut, LinesMut, Rows, SlackColumns, SlackColumnsMut, SourcesMut, TripletColumns,
+    TripletColumnsMut, ValueColumns, ValueColumnsMut,
+};
 use starts::AcStart;
 use trailer::Edition;
 use vectors::STDIN_FILENO;
@@ -31,60 +38,63 @@ fn rows(s: &[u8; 600000], j: usize) -> usize
 fn width(s: &[u8; 600000]) -> usize
     ensures { (result ≡ width_told s.now) × (result ≤ 258) }
 {
-    real::least(vectors::pair(s, 6), 258)
+    vectors::pair(s, 6).min(258)
 }
 
 // What the input says of place i of column j.
+#[tactic(auto, unfolding(crate::specs::Told::word_told))]
 fn told(s: &[u8; 600000], j: usize, i: usize) -> u64
     requires { j < 30 }
     ensures { result ≡ word_told s.now j i }
 {
-    let k = real::least(i, rows(s, j));
+    let k = i.min(rows(s, j));
     vectors::word(s, vectors::pair(s, 8 + j * 4) + k * 8)
 }
 
-// Whether a column's lent places hold what the input says; one function for each type of element.
-fn kinds(s: &[u8; 600000], j: usize, col: [u8; 258]) -> bool
-    requires { j < 30 }
-    ensures { Tells result (take (width_told s.now) col ≡ numbers_told s.now j) }
-{
-    let n = width(s);
-    let mut i = 0;
-    while i < n {
-        if col[i] as u64 != told(s, j, i) {
-            return false;
-        }
-        i += 1;
-    }
-    true
+// What a column holds, each place as a word of the input says it.
+trait Cell: Copy {
+    ghost said: { ℕ → Self };
+
+    fn is(self, w: u64) -> bool
+        ensures { Tells result (self ≡ said w) };
 }
 
-fn numbers(s: &[u8; 600000], j: usize, col: [usize; 258]) -> bool
-    requires { j < 30 }
-    ensures { Tells result (take (width_told s.now) col ≡ numbers_told s.now j) }
-{
-    let n = width(s);
-    let mut i = 0;
-    while i < n {
-        if col[i] as u64 != told(s, j, i) {
-            return false;
-        }
-        i += 1;
+impl Cell for u8 {
+    ghost said = { λ w. w };
+
+    fn is(self, w: u64) -> bool {
+        u64::from(self) == w
     }
-    true
 }
 
-fn reals(s: &[u8; 600000], j: usize, col: [f64; 258]) -> bool
+impl Cell for usize {
+    ghost said = { λ w. w };
+
+    fn is(self, w: u64) -> bool {
+        self as u64 == w
+    }
+}
+
+impl Cell for f64 {
+    ghost said = { of_bits binary64 };
+
+    fn is(self, w: u64) -> bool {
+        vectors::same(self, vectors::double(w))
+    }
+}
+
+// Whether the lent places of column j hold what the input says.
+fn holds<T: Cell>(s: &[u8; 600000], j: usize, col: &[T]) -> bool
     requires { j < 30 }
-    ensures { Tells result (take (width_told s.now) col ≡ reals_told s.now j) }
+    ensures { Tells result (col.now ≡ each (width_told s.now) (λ i. T.said (word_told s.now j i))) }
 {
-    let n = width(s);
-    let mut i = 0;
-    while i < n {
-        if !vectors::same(col[i], vectors::double(told(s, j, i))) {
+    if col.len() != width(s) {
+        return false;
+    }
+    for (i, &x) in col.iter().enumerate() {
+        if !x.is(told(s, j, i)) {
             return false;
         }
-        i += 1;
     }
     true
 }
@@ -124,43 +134,37 @@ fn refused(s: &[u8; 600000], n: usize, at: usize) -> bool
     requires { 0 < n }
     ensures { Tells result (refusal n at ≡ paper_told s.now) }
 {
-    if vectors::pair(s, 0) != n {
-        return false;
-    }
-    if n == 9 {
-        return true;
-    }
-    at == vectors::pair(s, 2)
+    (vectors::pair(s, 0) == n) & ((n == 9) | (at == vectors::pair(s, 2)))
 }
 
-// Whether a letter of the trailer is of this edition: the second has f and c.
-fn editions(e: Edition, letter: usize) -> bool
-    ensures { Tells result (e ≡ edition_by letter) }
+// The edition of a letter of the trailer: the second has f and c.
+fn edition(letter: usize) -> Edition
+    ensures { result ≡ edition_by letter }
 {
-    let second = (letter == 102) | (letter == 99);
-    let Edition::First = e else {
-        return second;
-    };
-    !second
+    if letter == usize::from(b'f') || letter == usize::from(b'c') {
+        Edition::Second
+    } else {
+        Edition::First
+    }
 }
 
 fn flat_letter(e: Edition) -> usize
     ensures { result ≡ flat_letter e }
 {
     match e {
-        Edition::First => 70,
-        Edition::Second => 102,
+        Edition::First => usize::from(b'F'),
+        Edition::Second => usize::from(b'f'),
     }
 }
 
-fn starts(m: AcStart, e: Edition, letter: usize) -> bool
-    ensures { Tells result (m ≡ mode_of e letter) }
+fn start(e: Edition, letter: usize) -> AcStart
+    ensures { result ≡ mode_of e letter }
 {
-    let flat = flat_letter(e);
-    let AcStart::Flat = m else {
-        return letter != flat;
-    };
-    letter == flat
+    if letter == flat_letter(e) {
+        AcStart::Flat
+    } else {
+        AcStart::Case
+    }
 }
 
 fn branch_rows(s: &[u8; 600000], e: Edition) -> usize
@@ -181,25 +185,28 @@ fn triplet_rows(s: &[u8; 600000], e: Edition) -> usize
     }
 }
 
-// Whether the input says these rows: a table's are those of its first column.
-fn rows_agree(s: &[u8; 600000], e: Edition, r: network::Rows) -> bool
-    ensures { Tells result (r ≡ rows_told e s.now) }
+// The rows of the tables: a table's are those of its first column.
+fn rows_told(s: &[u8; 600000], e: Edition) -> Rows
+    ensures { result ≡ rows_told e s.now }
 {
-    (r.buses == rows(s, 0))
-        & (r.slacks == rows(s, 8))
-        & (r.generators == rows(s, 10))
-        & (r.branches == branch_rows(s, e))
-        & (r.triplets == triplet_rows(s, e))
+    Rows {
+        buses: rows(s, 0),
+        slacks: rows(s, 8),
+        generators: rows(s, 10),
+        branches: branch_rows(s, e),
+        triplets: triplet_rows(s, e),
+    }
 }
 
 fn good(s: &[u8; 600000], c: Contents) -> bool
     ensures { Tells result (given c ≡ paper_told s.now) }
 {
-    let e = c.edition;
-    let m = c.start;
-    let r = c.rows;
     let letter = vectors::pair(s, 4);
-    (vectors::pair(s, 0) == 0) & editions(e, letter) & starts(m, e, letter) & rows_agree(s, e, r)
+    let e = edition(letter);
+    (vectors::pair(s, 0) == 0)
+        & (c.edition == e)
+        & (c.start == start(e, letter))
+        & (c.rows == rows_told(s, e))
 }
 
 fn answered(s: &[u8; 600000], v: Result<Contents, Refusal>) -> bool
@@ -211,125 +218,88 @@ fn answered(s: &[u8; 600000], v: Result<Contents, Refusal>) -> bool
     }
 }
 
-// ---- each table, column by column; these come by value, since each lent one costs the check of the caller a place more
+// ---- each table, column by column
 
-fn buses_agree(
-    s: &[u8; 600000],
-    kind: [u8; 258],
-    vm_set: [f64; 258],
-    pd: [f64; 258],
-    qd: [f64; 258],
-    pg: [f64; 258],
-    qg: [f64; 258],
-    vm_case: [f64; 258],
-    va_case: [f64; 258],
-) -> bool
-    ensures { let m = width_told s.now in
-        let t = buses_of kind vm_set pd qd pg qg vm_case va_case in
-        Tells result (first_buses m t ≡ buses_told s.now) }
+fn buses_agree(s: &[u8; 600000], c: BusColumns) -> bool
+    ensures { Tells result (buses_in c.entry ≡ buses_told s.now) }
 {
-    kinds(s, 0, kind)
-        & reals(s, 1, vm_set)
-        & reals(s, 2, pd)
-        & reals(s, 3, qd)
-        & reals(s, 4, pg)
-        & reals(s, 5, qg)
-        & reals(s, 6, vm_case)
-        & reals(s, 7, va_case)
+    holds(s, 0, c.kind)
+        & holds(s, 1, c.vm_set)
+        & holds(s, 2, c.pd)
+        & holds(s, 3, c.qd)
+        & holds(s, 4, c.pg)
+        & holds(s, 5, c.qg)
+        & holds(s, 6, c.vm_case)
+        & holds(s, 7, c.va_case)
 }
 
-fn slacks_agree(s: &[u8; 600000], slacks: [usize; 258], va_slacks: [f64; 258]) -> bool
-    ensures { let m = width_told s.now in
-        Tells result (first_slacks m (slacks_of slacks va_slacks) ≡ slacks_told s.now) }
+fn slacks_agree(s: &[u8; 600000], c: SlackColumns) -> bool
+    ensures { Tells result (slacks_in c.entry ≡ slacks_told s.now) }
 {
-    numbers(s, 8, slacks) & reals(s, 9, va_slacks)
+    holds(s, 8, c.bus) & holds(s, 9, c.angle)
 }
 
-fn generators_agree(
-    s: &[u8; 600000],
-    gen_bus: [usize; 258],
-    qmin: [f64; 258],
-    qmax: [f64; 258],
-) -> bool
-    ensures { let m = width_told s.now in
-        Tells result (first_generators m (generators_of gen_bus qmin qmax) ≡ generators_told s.now) }
+fn generators_agree(s: &[u8; 600000], c: GeneratorColumns) -> bool
+    ensures { Tells result (generators_in c.entry ≡ generators_told s.now) }
 {
-    numbers(s, 10, gen_bus) & reals(s, 11, qmin) & reals(s, 12, qmax)
+    holds(s, 10, c.bus) & holds(s, 11, c.qmin) & holds(s, 12, c.qmax)
 }
 
 // The ends of the lines L or K: j is the first of their two columns.
-fn branches_agree(s: &[u8; 600000], j: usize, from: [usize; 258], to: [usize; 258]) -> bool
+fn branches_agree(s: &[u8; 600000], j: usize, c: BranchColumns) -> bool
     requires { j + 1 < 30 }
-    ensures { let m = width_told s.now in
-        Tells result (first_branches m (branches_of from to) ≡ branches_told s.now j) }
+    ensures { Tells result (branches_in c.entry ≡ branches_told s.now j) }
 {
-    numbers(s, j, from) & numbers(s, j + 1, to)
+    holds(s, j, c.from) & holds(s, j + 1, c.to)
 }
 
-fn triplets_agree(
-    s: &[u8; 600000],
-    y_row: [usize; 258],
-    y_col: [usize; 258],
-    y_re: [f64; 258],
-    y_im: [f64; 258],
-) -> bool
-    ensures { let m = width_told s.now in
-        Tells result (first_triplets m (triplets_of y_row y_col y_re y_im) ≡ triplets_told s.now) }
+fn triplets_agree(s: &[u8; 600000], c: TripletColumns) -> bool
+    ensures { Tells result (triplets_in c.entry ≡ triplets_told s.now) }
 {
-    numbers(s, 15, y_row) & numbers(s, 16, y_col) & reals(s, 17, y_re) & reals(s, 18, y_im)
+    holds(s, 15, c.row) & holds(s, 16, c.col) & holds(s, 17, c.re) & holds(s, 18, c.im)
 }
 
-fn values_agree(
-    s: &[u8; 600000],
-    g: [f64; 258],
-    b: [f64; 258],
-    g_fr: [f64; 258],
-    b_fr: [f64; 258],
-    g_to: [f64; 258],
-    b_to: [f64; 258],
-    tap: [f64; 258],
-    shift: [f64; 258],
-    sw: [f64; 258],
-) -> bool
-    ensures { let m = width_told s.now in
-        let t = values_of g b g_fr b_fr g_to b_to tap shift sw in
-        Tells result (first_values m t ≡ values_told s.now) }
+fn values_agree(s: &[u8; 600000], c: ValueColumns) -> bool
+    ensures { Tells result (values_in c.entry ≡ values_told s.now) }
 {
-    reals(s, 21, g)
-        & reals(s, 22, b)
-        & reals(s, 23, g_fr)
-        & reals(s, 24, b_fr)
-        & reals(s, 25, g_to)
-        & reals(s, 26, b_to)
-        & reals(s, 27, tap)
-        & reals(s, 28, shift)
-        & reals(s, 29, sw)
+    holds(s, 21, c.g)
+        & holds(s, 22, c.b)
+        & holds(s, 23, c.g_fr)
+        & holds(s, 24, c.b_fr)
+        & holds(s, 25, c.g_to)
+        & holds(s, 26, c.b_to)
+        & holds(s, 27, c.tap)
+        & holds(s, 28, c.shift)
+        & holds(s, 29, c.sw)
 }
 
 // ---- the whole
 
-// Reads a text into the first places of columns of marks and into the caller's table of branches. Whether the answer and all but this table is as the record says.
-fn rest_agrees(
+// Reads a text into these columns. Whether the answer and what the columns then hold is as the record says.
+fn columns_agree(
     text: &[u8],
     s: &[u8; 600000],
-    from: &mut [usize],
-    to: &mut [usize],
-    g: &mut [f64],
-    b: &mut [f64],
-    g_fr: &mut [f64],
-    b_fr: &mut [f64],
-    g_to: &mut [f64],
-    b_to: &mut [f64],
-    tap: &mut [f64],
-    shift: &mut [f64],
-    sw: &mut [f64],
+    sources: &mut SourcesMut,
+    lines: &mut LinesMut,
+    table: &mut BranchTableMut,
 ) -> bool
-    ensures { let old = branch_table_of (branches_of from.old to.old)
-        (values_of g.old b.old g_fr.old b_fr.old g_to.old b_to.old tap.old shift.old sw.old) in
-        let new = branch_table_of (branches_of from.new to.new)
-        (values_of g.new b.new g_fr.new b_fr.new g_to.new b_to.new tap.new shift.new sw.new) in
-        let o = read_of text.now (columns_of (network_marks (width_told s.now)) old) in
-        Tells result (RestAgrees s.now o) × (table_in o ≡ new) }
+    ensures { let old = columns_of (network_lent sources.old lines.old) (branch_table_lent table.old) in
+        Tells result (read_of text.now old ≡ outcome_told s.now) }
+{
+    let v = reader::read_case(text, sources, lines, table);
+    answered(s, v)
+        & buses_agree(s, sources.buses.read())
+        & slacks_agree(s, sources.slacks.read())
+        & generators_agree(s, sources.generators.read())
+        & branches_agree(s, 13, lines.branches.read())
+        & triplets_agree(s, lines.triplets.read())
+        & branches_agree(s, 19, table.ends.read())
+        & values_agree(s, table.values.read())
+}
+
+// Whether the reading of a text, into the first places of columns of marks, is as the record says.
+fn agrees(text: &[u8], s: &[u8; 600000]) -> bool
+    ensures { Tells result (Agrees text.now s.now) }
 {
     let m = width(s);
     let mut kind = [251u8; 258];
@@ -340,63 +310,50 @@ fn rest_agrees(
     let mut qg = [1e300; 258];
     let mut vm_case = [1e300; 258];
     let mut va_case = [1e300; 258];
-    let mut slacks = [251usize; 258];
-    let mut va_slacks = [1e300; 258];
+    let mut slack_bus = [251usize; 258];
+    let mut angle = [1e300; 258];
     let mut gen_bus = [251usize; 258];
     let mut qmin = [1e300; 258];
     let mut qmax = [1e300; 258];
-    let mut br_from = [251usize; 258];
-    let mut br_to = [251usize; 258];
-    let mut y_row = [251usize; 258];
-    let mut y_col = [251usize; 258];
-    let mut y_re = [1e300; 258];
-    let mut y_im = [1e300; 258];
-    let v = reader::read_case(
-        text,
-        &mut kind[..m],
-        &mut vm_set[..m],
-        &mut pd[..m],
-        &mut qd[..m],
-        &mut pg[..m],
-        &mut qg[..m],
-        &mut vm_case[..m],
-        &mut va_case[..m],
-        &mut slacks[..m],
-        &mut va_slacks[..m],
-        &mut gen_bus[..m],
-        &mut qmin[..m],
-        &mut qmax[..m],
-        &mut br_from[..m],
-        &mut br_to[..m],
-        &mut y_row[..m],
-        &mut y_col[..m],
-        &mut y_re[..m],
-        &mut y_im[..m],
-        from,
-        to,
-        g,
-        b,
-        g_fr,
-        b_fr,
-        g_to,
-        b_to,
-        tap,
-        shift,
-        sw,
-    );
-    answered(s, v)
-        & buses_agree(s, kind, vm_set, pd, qd, pg, qg, vm_case, va_case)
-        & slacks_agree(s, slacks, va_slacks)
-        & generators_agree(s, gen_bus, qmin, qmax)
-        & branches_agree(s, 13, br_from, br_to)
-        & triplets_agree(s, y_row, y_col, y_re, y_im)
-}
-
-// Whether the reading of a text, into the first places of columns of marks, is as the record says.
-fn agrees(text: &[u8], s: &[u8; 600000]) -> bool
-    ensures { Tells result (Agrees text.now s.now) }
-{
-    let m = width(s);
+    let mut sources = SourcesMut {
+        buses: BusColumnsMut {
+            kind: &mut kind[..m],
+            vm_set: &mut vm_set[..m],
+            pd: &mut pd[..m],
+            qd: &mut qd[..m],
+            pg: &mut pg[..m],
+            qg: &mut qg[..m],
+            vm_case: &mut vm_case[..m],
+            va_case: &mut va_case[..m],
+        },
+        slacks: SlackColumnsMut {
+            bus: &mut slack_bus[..m],
+            angle: &mut angle[..m],
+        },
+        generators: GeneratorColumnsMut {
+            bus: &mut gen_bus[..m],
+            qmin: &mut qmin[..m],
+            qmax: &mut qmax[..m],
+        },
+    };
+    let mut line_from = [251usize; 258];
+    let mut line_to = [251usize; 258];
+    let mut row = [251usize; 258];
+    let mut col = [251usize; 258];
+    let mut re = [1e300; 258];
+    let mut im = [1e300; 258];
+    let mut lines = LinesMut {
+        branches: BranchColumnsMut {
+            from: &mut line_from[..m],
+            to: &mut line_to[..m],
+        },
+        triplets: TripletColumnsMut {
+            row: &mut row[..m],
+            col: &mut col[..m],
+            re: &mut re[..m],
+            im: &mut im[..m],
+        },
+    };
     let mut from = [251usize; 258];
     let mut to = [251usize; 258];
     let mut g = [1e300; 258];
@@ -408,23 +365,24 @@ fn agrees(text: &[u8], s: &[u8; 600000]) -> bool
     let mut tap = [1e300; 258];
     let mut shift = [1e300; 258];
     let mut sw = [1e300; 258];
-    let rest = rest_agrees(
-        text,
-        s,
-        &mut from[..m],
-        &mut to[..m],
-        &mut g[..m],
-        &mut b[..m],
-        &mut g_fr[..m],
-        &mut b_fr[..m],
-        &mut g_to[..m],
-        &mut b_to[..m],
-        &mut tap[..m],
-        &mut shift[..m],
-        &mut sw[..m],
-    );
-    rest & branches_agree(s, 19, from, to)
-        & values_agree(s, g, b, g_fr, b_fr, g_to, b_to, tap, shift, sw)
+    let mut table = BranchTableMut {
+        ends: BranchColumnsMut {
+            from: &mut from[..m],
+            to: &mut to[..m],
+        },
+        values: ValueColumnsMut {
+            g: &mut g[..m],
+            b: &mut b[..m],
+            g_fr: &mut g_fr[..m],
+            b_fr: &mut b_fr[..m],
+            g_to: &mut g_to[..m],
+            b_to: &mut b_to[..m],
+            tap: &mut tap[..m],
+            shift: &mut shift[..m],
+            sw: &mut sw[..m],
+        },
+    };
+    columns_agree(text, s, &mut sources, &mut lines, &mut table)
 }
 
 // Whether the reading of one text agrees; None where the input has no whole record left.

@@ -4,6 +4,6 @@ use Rattle.text_vectors.proofs.triplets_agree.Goals as goal
 
 pub returns : goal.returns
 returns c =
-    last-told (c.numbers.ensures and c.numbers-2.ensures and c.reals.ensures and c.reals-2.ensures)
+    last-told (c.holds.ensures and c.holds-2.ensures and c.holds-3.ensures and c.holds-4.ensures)
     (λ e. (((λ i. (e i).row, λ i. (e i).col), λ i. (e i).re), λ i. (e i).im))
     (λ (((x0, x1), x2), x3). λ i. record { row = x0 i; col = x1 i; re = x2 i; im = x3 i })
