@@ -1,7 +1,7 @@
 // Of pf_ac.rs: ac_pf_with_start. The starts in turn, each through the limit rounds; the best result is kept, and the first below the tolerance ends it.
 #![tactic(auto)]
 
-ghost use Rattle.std.specs.Prelude.{◌≡◌, ◌≤◌, length};
+ghost use Rattle.std.specs.Prelude.{◌≡◌, ◌≤◌, false, length};
 ghost use Rattle.network.specs.Columns.{network_in};
 ghost use Rattle.network.specs.Checks.{WellIndexed};
 ghost use Rattle.qlim.specs.Rounds.{study_in, GoodStudy};
@@ -77,7 +77,7 @@ fn start_count(start: AcStart) -> usize
 // Any result replaces the one kept that is no NaN and is smaller or follows a NaN.
 #[tactic(auto, unfolding(crate::specs::Search::better_of))]
 fn better(best: f64, res: f64) -> bool
-    ensures { result ≡ better_of best res }
+    ensures { result ≡ better_of false best res }
 {
     !real::is_nan(res) && (real::is_nan(best) || res < best)
 }

@@ -7,7 +7,10 @@ use Rattle.std.specs.Prelude.{ℕ, zero, suc, ◌≤◌, false, cond, List, leng
 use Rattle.std.specs.Float.{inf}
 use Rattle.std.specs.Float.Ieee.{le}
 use Rattle.real.specs.Literals.{nought, tolerance}
+use Rattle.complex.specs.declared.Complex.{Complex}
+use Rattle.complex.specs.Numbers as Numbers
 use Rattle.layout.specs.declared.BusKind.{BusKind}
+use Rattle.layout.specs.declared.BusKind.TheVariants.{Slack}
 use Rattle.layout.specs.declared.Limits.{Limits}
 use Rattle.layout.specs.Layout.{layout_of}
 use Rattle.network.specs.Network.{Triplets}
@@ -15,6 +18,7 @@ use Rattle.network.specs.Columns.{triplets_in}
 use Rattle.injections.specs.Injections.{GoodTriplets, injected_of, injections_of}
 use Rattle.layout.specs.declared.Point.{Point}
 use Rattle.newton.specs.declared.Ended.{Ended}
+use Rattle.newton.specs.declared.Ending.TheVariants.{Spent}
 use Rattle.newton.specs.Newton.{Problem, problem, Run, newton_of, ended_of, space_after}
 use Rattle.moves.specs.declared.Move.{Move}
 use Rattle.moves.specs.declared.Track.{Track}
@@ -59,6 +63,17 @@ space_done (done s w) = w
 
 abbrev pub infinity : Float
 infinity = inf false
+
+-- no rounds: what a search keeps before its first start
+abbrev pub nothing : Point → Settled
+nothing p =
+    let none : List Complex = replicate 32 Numbers.zero in
+    record {
+      ended = record { point = p; phasors = record { v = none; i = none }; iterations = 0; residual = infinity; ending = Spent };
+      kinds = replicate 32 Slack;
+      schedule = replicate 32 nought;
+      residual = infinity;
+    }
 
 -- Newton's end under these kinds and schedules, with a residual
 abbrev pub settle_of : ℕ → List BusKind → List Float → Ended → Float → Settled

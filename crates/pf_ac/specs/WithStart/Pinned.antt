@@ -1,13 +1,13 @@
 -- More than 01 withholds: the case start does not read vm_case at slack and V buses either, since those magnitudes are pinned. Assumes nothing.
 use Prim.Native.Nat.{ℕ, zero, suc, ◌+◌, ◌≤◌, ◌<◌}
-use Rattle.std.specs.Prelude.{Bool, false, cond, ◌-◌, ◌⊎◌, ◌≡◌, ltb, length, get_or, replicate, Float}
+use Rattle.std.specs.Prelude.{Bool, false, ◌⊎◌, ◌≡◌, eqb, ltb, length, get_or, replicate, Float}
 use Rattle.std.proofs.Math.Bool.{true}
 use mathlib.Core.List.{List}
 use Rattle.std.proofs.Common.{inl, inr, sym, ◌∙◌, add-one, ltb-true, ltb-false, ext_get_or}
 use Rattle.std.proofs.Math.Path.{refl, ap}
 use Rattle.std.proofs.lemmas.List.{length-replicate}
-use Rattle.std.specs.Float.Ieee.{nan, lt}
-use Rattle.real.specs.Literals.{nought, tolerance}
+use Rattle.std.specs.Float.Ieee.{nan}
+use Rattle.real.specs.Literals.{nought}
 use Rattle.network.specs.Network.{Network, buses_of, network_of, bus_count}
 use Rattle.layout.specs.declared.BusKind.{BusKind}
 use Rattle.layout.specs.declared.BusKind.TheVariants.{Slack, Pv}
@@ -20,11 +20,11 @@ use Rattle.layout.specs.Residual.Laws.{NoReactive}
 use Rattle.starts.specs.Starts.{case_vm, case_of}
 use Rattle.qlim.specs.declared.Settled.{Settled}
 use Rattle.moves.specs.Moves.{pin_of, pinned}
-use Rattle.qlim.specs.Rounds.{Study, qlim_of}
+use Rattle.qlim.specs.Rounds.{Study, nothing, qlim_of}
 use Rattle.qlim.specs.Rounds.Unread.{start-unread}
 use Rattle.starts.specs.declared.AcStart.{AcStart}
 use Rattle.starts.specs.declared.AcStart.TheVariants.{Flat, Case}
-use Rattle.pf_ac.specs.Search.{nth_start, start_count, first_of, try_of, end_with, search_from, search_of}
+use Rattle.pf_ac.specs.Search.{nth_start, better_of, try_of, search_from, search_of}
 use Rattle.pf_ac.specs.WithStart.{kinds_for, study_for, flat_for, first_for, ac_pf_of}
 use Rattle.pf_ac.specs.WithStart.Withheld.{kind_for, SameAt}
 
@@ -71,17 +71,20 @@ module _ (start : AcStart) (s : Study) (kinds : List BusKind) (p q flat : Point)
   later (suc m) i best w = on (λ k v. rw (add-one (suc i)) (later m (suc i) k v))
     where
       on : ((k : Settled) (v : List Float) → search_from m (suc i + 1) start s kinds p flat k v ≡ search_from m (suc i + 1) start s kinds q flat k v)
-          → cond (lt best.residual tolerance) (end_with start best w)
-          (try_of best (qlim_of s kinds (nth_start start s.n kinds p flat (suc i)) w) (search_from m (suc i + 1) start s kinds p flat))
-          ≡ cond (lt best.residual tolerance) (end_with start best w)
-          (try_of best (qlim_of s kinds (nth_start start s.n kinds q flat (suc i)) w) (search_from m (suc i + 1) start s kinds q flat))
-      on h =
-          λ j. cond (lt best.residual tolerance) (end_with start best w)
-          (try_of best (qlim_of s kinds (nth_start start s.n kinds p flat (suc i)) w) (λ k v. h k v j))
+          → try_of (eqb (suc i) 0) best (qlim_of s kinds (nth_start start s.n kinds p flat (suc i)) w) (search_from m (suc i + 1) start s kinds p flat)
+          ≡ try_of (eqb (suc i) 0) best (qlim_of s kinds (nth_start start s.n kinds q flat (suc i)) w) (search_from m (suc i + 1) start s kinds q flat)
+      on h = λ j. try_of (eqb (suc i) 0) best (qlim_of s kinds (nth_start start s.n kinds p flat (suc i)) w) (λ k v. h k v j)
 
-  search-pinned : (w : List Float) → search_of start s kinds p flat w ≡ search_of start s kinds q flat w
-  unfolding search_of
-  search-pinned w = λ j. first_of (rounds w j) (λ k v. later (start_count start - 1) 0 k v j)
+  first : (m : ℕ) (best best' : Settled) (w : List Float) → search_from (suc m) 0 start s kinds p flat best w ≡ search_from (suc m) 0 start s kinds q flat best' w
+  unfolding search_from nth_start try_of better_of
+  first m best best' w = λ j. try_of true best (rounds w j) (λ k v. later m 0 k v j)
+
+search-pinned : (start : AcStart) (s : Study) (kinds : List BusKind) (p q flat : Point) → ((w : List Float) → qlim_of s kinds p w ≡ qlim_of s kinds q w)
+    → (w : List Float)
+    → search_of start s kinds p flat w ≡ search_of start s kinds q flat w
+unfolding search_of
+search-pinned Flat s kinds p q flat rounds w = first Flat s kinds p q flat rounds 4 (nothing p) (nothing q) w
+search-pinned Case s kinds p q flat rounds w = first Case s kinds p q flat rounds 5 (nothing p) (nothing q) w
 
 -- ---- the solve
 

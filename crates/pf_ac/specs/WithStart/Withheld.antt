@@ -1,13 +1,12 @@
 -- Demand 3: two networks that differ only in 01's "Withheld columns" are solved alike, in answer and workspace. Assumes nothing.
 use Prim.Native.Nat.{ℕ, zero, suc, ◌+◌, ◌≤◌, ◌<◌}
-use Rattle.std.specs.Prelude.{List, cond, ◌-◌, ◌⊎◌, ◌≡◌, length, get_or, Float}
+use Rattle.std.specs.Prelude.{List, ◌⊎◌, ◌≡◌, eqb, length, get_or, Float}
 use Rattle.std.proofs.Common.{inl, inr, sym, ◌∙◌, arith}
 use Rattle.std.proofs.Math.Path.{refl, ap}
 use Rattle.std.proofs.lemmas.List.{length-replicate}
 use Rattle.std.specs.Float.{nan}
-use Rattle.std.specs.Float.Ieee.{lt}
 use Rattle.real.specs.Tests.{no-case}
-use Rattle.real.specs.Literals.{nought, tolerance}
+use Rattle.real.specs.Literals.{nought}
 use Rattle.network.specs.Network.{Buses, Generators, Network, buses_of, generators_of, network_of, bus_count}
 use Rattle.layout.specs.declared.BusKind.{BusKind}
 use Rattle.layout.specs.declared.BusKind.TheVariants.{Slack, Pv, Pq}
@@ -19,12 +18,12 @@ use Rattle.layout.specs.Kinds.Laws.{kinds-at}
 use Rattle.layout.specs.Limits.{sum_at, limits_of}
 use Rattle.layout.specs.Limits.Laws.{qmin-at, qmax-at, sum-unread}
 use Rattle.qlim.specs.declared.Settled.{Settled}
-use Rattle.qlim.specs.Rounds.{Study, qlim_of}
+use Rattle.qlim.specs.Rounds.{Study, qlim_of, nothing}
 use Rattle.qlim.specs.Rounds.Unread.{AlikeStudies}
 use Rattle.qlim.proofs.Unread.{rounds-unread}
 use Rattle.starts.specs.declared.AcStart.{AcStart}
 use Rattle.starts.specs.declared.AcStart.TheVariants.{Flat}
-use Rattle.pf_ac.specs.Search.{nth_start, first_of, try_of, end_with, search_from, start_count, search_of}
+use Rattle.pf_ac.specs.Search.{nth_start, try_of, search_from, start_count, search_of}
 use Rattle.pf_ac.specs.WithStart.{tabled, kinds_for, limits_for, study_for, flat_for, first_for, ac_pf_of}
 
 -- 01's kind of bus b
@@ -85,13 +84,8 @@ module _ (start : AcStart) (s u : Study) (n : s.n ≡ u.n) (kinds : List BusKind
   unfolding search_from
   search-alike zero i best w = refl
   search-alike (suc m) i best w =
-      ap (cond (lt best.residual tolerance) (end_with start best w))
-      (ap (λ (k : ℕ). try_of best (qlim_of s kinds (nth_start start k kinds first flat i) w) (search_from m (i + 1) start s kinds first flat)) n
-      ∙ (λ j. try_of best (rounds (nth_start start u.n kinds first flat i) w j) (λ k v. search-alike m (i + 1) k v j)))
-
-  all-alike : (w : List Float) → search_of start s kinds first flat w ≡ search_of start u kinds first flat w
-  unfolding search_of
-  all-alike w = λ j. first_of (rounds first w j) (λ k v. search-alike (start_count start - 1) 1 k v j)
+      ap (λ (k : ℕ). try_of (eqb i 0) best (qlim_of s kinds (nth_start start k kinds first flat i) w) (search_from m (i + 1) start s kinds first flat)) n
+      ∙ (λ j. try_of (eqb i 0) best (rounds (nth_start start u.n kinds first flat i) w j) (λ k v. search-alike m (i + 1) k v j))
 
 -- ---- the studies
 
@@ -178,10 +172,11 @@ module _ (start : AcStart) (t u : Network) (few : bus_count t ≤ 32) (a : Alike
   -- ---- the solve
 
   figures-unread : (w : List Float) → ac_pf_of start t w ≡ ac_pf_of start (with t u) w
-  unfolding ac_pf_of
+  unfolding ac_pf_of search_of
   figures-unread w =
-      all-alike start (study_for t) (study_for (with t u)) refl (kinds_for t) (rounds-unread (kinds_for t) (study_for t) (study_for (with t u)) few studies-alike) (first_for start t) (flat_for t) w
-      ∙ ap (λ (f : Point). search_of start (study_for (with t u)) (kinds_for t) f (flat_for t) w) first_alike
+      search-alike start (study_for t) (study_for (with t u)) refl (kinds_for t) (rounds-unread (kinds_for t) (study_for t) (study_for (with t u)) few studies-alike) (first_for start t) (flat_for t)
+      (start_count start) 0 (nothing (first_for start t)) w
+      ∙ ap (λ (f : Point). search_from (start_count start) 0 start (study_for (with t u)) (kinds_for t) f (flat_for t) (nothing f) w) first_alike
 
 pub withheld : (start : AcStart) (t u : Network) → bus_count t ≤ 32 → Alike start t u → (w : List Float) → ac_pf_of start t w ≡ ac_pf_of start u w
 withheld start t u few a w =
