@@ -46,18 +46,6 @@ def definitions(commit):
     out = {}
     for name, text in files(commit, r'crates/\w+/(specs/.*|proofs/\w+)\.antt'):
         crate = name.split('/')[1]
-        for block in re.split(r'\n(?=\S|  \S)(?! *(?:where|let|unfolding)\b)', text):
-            m = re.match(r' *((?:abbrev |unfoldable )?pub (?:record |data )?)([^\s:({]+)', block)
-            if not m or m.group(2) == 'mod':
-                continue
-            key = '%s %s' % (crate, m.group(2))
-            body = re.sub(r'\n( *--.*)', '', block).strip()
-            out.setdefault(key, []).append(body)
-        # the lines of a definition's cases follow its signature
-        for key in list(out):
-            pass
-    for name, text in files(commit, r'crates/\w+/(specs/.*|proofs/\w+)\.antt'):
-        crate = name.split('/')[1]
         lines = text.split('\n')
         for i, line in enumerate(lines):
             m = re.match(r'( *)((?:abbrev |unfoldable )?)pub (?:record |data )?([^\s:({]+)', line)
@@ -72,7 +60,7 @@ def definitions(commit):
                 got.append(lines[j].strip())
                 j += 1
             out['%s %s' % (crate, m.group(3))] = ' '.join(x for x in got if not x.startswith('unfolding '))
-    return {k: v for k, v in out.items() if isinstance(v, str)}
+    return out
 
 
 def section(title, old, new):
