@@ -5,7 +5,7 @@ use Rattle.network.specs.BranchTable.{BranchNetwork}
 use Rattle.ybus.specs.declared.Fault.{Fault}
 use Rattle.ybus.specs.Fault.Laws.{tap-told, ends-told}
 use Rattle.outcome.specs.declared.Refusal.TheVariants.{Tap, Ends}
-use Rattle.outcome.specs.Outcome.{Lengths}
+use Rattle.outcome.specs.declared.Lengths.{Lengths}
 use Rattle.branch_checks.specs.BranchChecks.{checked_branches_of}
 use Rattle.branch_checks.specs.BranchChecks.Laws.{TapRefused, EndsRefused, fault-told}
 

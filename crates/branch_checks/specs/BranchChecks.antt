@@ -12,7 +12,8 @@ use Rattle.ybus.specs.Fault.{fault_of}
 use Rattle.outcome.specs.declared.Solved.{Solved}
 use Rattle.outcome.specs.declared.Refusal.{Refusal}
 use Rattle.outcome.specs.declared.Refusal.TheVariants.{Counts, Room, Tap, Ends}
-use Rattle.outcome.specs.Outcome.{Lengths, roomy, bus_refusal}
+use Rattle.outcome.specs.declared.Lengths.{Lengths}
+use Rattle.outcome.specs.Outcome.{roomy, bus_refusal}
 
 -- how many branches there are
 abbrev pub branch_count : BranchNetwork → ℕ
@@ -40,6 +41,10 @@ then_fault (Err r) f = Err r
 -- 8, 11 and 12, then 14 and 15
 abbrev pub checked_rows_of : BranchNetwork → Result (Unit {0}) Refusal
 checked_rows_of t = then_fault (bus_refusal (missing_in (with_triplets t no_triplets))) (fault_of t.table.ends t.table.values.tap)
+
+-- the same of the columns that are read for it
+abbrev pub checked_rows : ℕ → List ℕ → List ℕ → Branches → List Float → Result (Unit {0}) Refusal
+checked_rows n slacks generators ends tap = then_fault (bus_refusal (missing_by n slacks generators ends.from ends.to [] [])) (fault_of ends tap)
 
 -- 7, 9, 8, 11, 12, 14 and 15
 unfoldable pub checked_branches_of : BranchNetwork → Lengths → ℕ → ℕ → Result (Unit {0}) Refusal

@@ -2,10 +2,10 @@
 #![tactic(auto)]
 
 ghost use Rattle.std.specs.Prelude.{◌≡◌, length};
-ghost use Rattle.network.specs.Columns.{branch_network_in};
-ghost use Rattle.branch_checks.specs.BranchChecks.{fault_refusal, checked_rows_of};
+ghost use Rattle.network.specs.Columns.{branches_in};
+ghost use Rattle.branch_checks.specs.BranchChecks.{fault_refusal, checked_rows};
 
-use network::{BranchTables, TripletColumns};
+use network::{BranchColumns, TripletColumns};
 use outcome::Refusal;
 use ybus::Fault;
 
@@ -21,11 +21,17 @@ fn fault_refusal(f: Option<Fault>) -> Result<(), Refusal>
 }
 
 // 8, 11 and 12 of rows that name a missing bus, then 14 and 15.
-pub fn check_rows(t: BranchTables) -> Result<(), Refusal>
-    requires { (length t.ends.to.now ≡ length t.ends.from.now) × (length t.values.tap.now ≡ length t.ends.from.now) }
-    ensures { result ≡ checked_rows_of (branch_network_in t.entry) }
+pub fn check_rows(
+    n: usize,
+    slacks: &[usize],
+    gen_bus: &[usize],
+    ends: BranchColumns,
+    tap: &[f64],
+) -> Result<(), Refusal>
+    requires { (length ends.to.now ≡ length ends.from.now) × (length tap.now ≡ length ends.from.now) }
+    ensures { result ≡ checked_rows n slacks.now gen_bus.now (branches_in ends.entry) tap.now }
 {
-    let bare = t.with_triplets(TripletColumns::none());
-    outcome::bus_refusal(network::missing_bus(bare))?;
-    fault_refusal(ybus::branch_fault(t.ends, t.values.tap))
+    let none = TripletColumns::none();
+    outcome::bus_refusal(network::missing_bus(n, slacks, gen_bus, ends, none))?;
+    fault_refusal(ybus::branch_fault(ends, tap))
 }

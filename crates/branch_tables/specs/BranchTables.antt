@@ -14,7 +14,8 @@ use Rattle.flows.specs.Flows.{with_flows, flows_room}
 use Rattle.starts.specs.declared.AcStart.{AcStart}
 use Rattle.outcome.specs.declared.Solved.{Solved}
 use Rattle.outcome.specs.declared.Refusal.{Refusal}
-use Rattle.outcome.specs.Outcome.{refusal_paper, Outs, Lengths, lengths_in, OnePerBus}
+use Rattle.outcome.specs.declared.Lengths.{Lengths}
+use Rattle.outcome.specs.Outcome.{refusal_paper, Outs, lengths_in, OnePerBus}
 use Rattle.tables.specs.Tables.{Answer, answer, after_run, run_of}
 use Rattle.branch_checks.specs.BranchChecks.{branch_count, checked_branches_of}
 

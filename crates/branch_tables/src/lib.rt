@@ -3,7 +3,6 @@
 #![tactic(auto)]
 
 ghost use Rattle.std.specs.Prelude.{◌≡◌, length};
-ghost use Rattle.network.specs.BranchTable.{BranchNetwork};
 ghost use Rattle.network.specs.Columns.{branch_network_in};
 ghost use Rattle.outcome.specs.Outcome.{outs_lent, SameOuts, lengths_in, paper_of};
 ghost use Rattle.flows.specs.Flows.{flows_lent, SameFlows, flows_room};
@@ -33,11 +32,12 @@ fn check_branches(
     if !counts {
         return Err(Refusal::Counts);
     }
-    let room = out.roomy(t.buses.kind.len(), w.len()) & (m <= flows.room());
+    let n = t.buses.kind.len();
+    let room = out.lengths().roomy(n, w.len()) & (m <= flows.room());
     if !room {
         return Err(Refusal::Room);
     }
-    branch_checks::check_rows(t)
+    branch_checks::check_rows(n, t.slacks.bus, t.generators.bus, t.ends, t.values.tap)
 }
 
 // ---- the solve of ready tables

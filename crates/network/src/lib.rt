@@ -5,11 +5,11 @@ ghost use Rattle.std.specs.Prelude.{◌≡◌, ◌||◌, eqb, leb, length, zip};
 ghost use Rattle.std.specs.List.{list_all, position};
 ghost use Rattle.network.specs.Network.{fits_of, buses_room, slacks_room, generators_room, branches_room, triplets_room, row_counts, RoomFor, first_rows};
 ghost use Rattle.network.specs.Network.{RoomBuses, RoomSlacks, RoomGenerators, RoomBranches, RoomTriplets, first_buses, first_slacks, first_generators, first_branches, first_triplets};
-ghost use Rattle.network.specs.Columns.{buses_in, slacks_in, generators_in, branches_in, triplets_in, network_in, values_in, branch_table_in, branch_network_in};
+ghost use Rattle.network.specs.Columns.{buses_in, slacks_in, generators_in, branches_in, triplets_in, network_in, values_in, branch_network_in};
 ghost use Rattle.network.specs.Columns.{buses_lent, slacks_lent, generators_lent, branches_lent, triplets_lent, values_lent, branch_table_lent};
 ghost use Rattle.network.specs.Checks.{buses_counted, slacks_counted, generators_counted, branches_counted, triplets_counted, counted};
-ghost use Rattle.network.specs.BranchTable.{values_counted, values_room, branch_table_room, RoomValues, RoomBranchTable, RoomForBranches, first_values, first_branch_table, first_branch_rows, with_triplets, no_triplets};
-ghost use Rattle.network.specs.Missing.{in_column, first_field, in_ends, missing_in};
+ghost use Rattle.network.specs.BranchTable.{values_counted, values_room, branch_table_room, RoomValues, RoomForBranches, first_values, first_branch_rows, with_triplets, no_triplets};
+ghost use Rattle.network.specs.Missing.{in_column, first_field, in_ends, missing_by};
 
 // ---- the columns of a case, lent for reading
 
@@ -189,8 +189,6 @@ pub fn fits(r: Rows, room: Rows) -> bool
             & ((r.generators <= room.generators)
                 & ((r.branches <= room.branches) & (r.triplets <= room.triplets))))
 }
-
-// The fewest places that a column of each table has, and the first rows of a table.
 
 // ---- refusal 7: a count over its size, or columns of one table that differ in length
 
@@ -723,16 +721,21 @@ fn in_ends(n: usize, table: Naming, a: &[usize], b: &[usize]) -> Option<MissingB
     })
 }
 
-// The first row at fault of the first table that has one: slack rows, generators, branches, triplets.
-#[tactic(auto, unfolding(crate::specs::Missing::missing_in))]
-pub fn missing_bus(t: Tables) -> Option<MissingBus>
-    requires { (length t.branches.to.now ≡ length t.branches.from.now) × (length t.triplets.col.now ≡ length t.triplets.row.now) }
-    ensures { result ≡ missing_in (network_in t.entry) }
+// The first row at fault of the first table that has one: slack rows, generators, branches, triplets. There are n buses; of the triplets only the rows and
+// columns are read.
+pub fn missing_bus(
+    n: usize,
+    slacks: &[usize],
+    gen_bus: &[usize],
+    ends: BranchColumns,
+    y: TripletColumns,
+) -> Option<MissingBus>
+    requires { (length ends.to.now ≡ length ends.from.now) × (length y.col.now ≡ length y.row.now) }
+    ensures { result ≡ missing_by n slacks.now gen_bus.now ends.entry.from.now ends.entry.to.now y.entry.row.now y.entry.col.now }
 {
-    let n = t.buses.kind.len();
-    let r = in_column(n, Naming::Slack, t.slacks.bus);
-    let g = in_column(n, Naming::Generator, t.generators.bus);
-    let l = in_ends(n, Naming::Branch, t.branches.from, t.branches.to);
-    let y = in_ends(n, Naming::Triplet, t.triplets.row, t.triplets.col);
+    let r = in_column(n, Naming::Slack, slacks);
+    let g = in_column(n, Naming::Generator, gen_bus);
+    let l = in_ends(n, Naming::Branch, ends.from, ends.to);
+    let y = in_ends(n, Naming::Triplet, y.row, y.col);
     r.or(g.or(l.or(y)))
 }

@@ -23,6 +23,7 @@ use Rattle.outcome.specs.declared.AnswerColumns.{AnswerColumns}
 use Rattle.outcome.specs.declared.AnswerColumnsMut.{AnswerColumnsMut}
 use Rattle.outcome.specs.declared.Refusal.{Refusal}
 use Rattle.outcome.specs.declared.Refusal.TheVariants.{Counts, Room, Slack, Generator, Branch, Triplet, Tap, Ends, NotConverged}
+use Rattle.outcome.specs.declared.Lengths.{Lengths}
 
 -- ---- the answer on paper
 
@@ -78,13 +79,6 @@ pub record SameOuts (c d : AnswerColumnsMut) : Type 0 where
 -- ---- the checks
 
 -- how many places each answer column has
-pub record Lengths : Type 0 where
-  pub vm : ℕ
-  pub va : ℕ
-  pub p : ℕ
-  pub q : ℕ
-  pub kinds : ℕ
-
 abbrev pub lengths_of : ℕ → ℕ → ℕ → ℕ → ℕ → Lengths
 lengths_of vm va p q kinds = record { vm = vm; va = va; p = p; q = q; kinds = kinds }
 

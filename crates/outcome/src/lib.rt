@@ -53,6 +53,16 @@ pub struct AnswerColumns<'a> {
     pub kinds: &'a [u8],
 }
 
+// How many places each of them has.
+#[derive(Clone, Copy)]
+pub struct Lengths {
+    pub vm: usize,
+    pub va: usize,
+    pub p: usize,
+    pub q: usize,
+    pub kinds: usize,
+}
+
 // ---- the checks
 
 impl AnswerColumnsMut<'_> {
@@ -69,15 +79,29 @@ impl AnswerColumnsMut<'_> {
         }
     }
 
+    // How many places each column has.
+    pub fn lengths(&self) -> Lengths
+        ensures { result ≡ lengths_in (outs_lent self.now) }
+    {
+        Lengths {
+            vm: self.vm.len(),
+            va: self.va.len(),
+            p: self.p.len(),
+            q: self.q.len(),
+            kinds: self.kinds.len(),
+        }
+    }
+}
+
+impl Lengths {
     // Whether each column has a place for each of n buses, and the workspace its w places: refusal 9, where not.
     #[tactic(auto, unfolding(real::specs::Tests::both, crate::specs::Outcome::roomy))]
-    pub fn roomy(&self, n: usize, w: usize) -> bool
-        ensures { result ≡ roomy n (lengths_in (outs_lent self.now)) w }
+    pub fn roomy(self, n: usize, w: usize) -> bool
+        ensures { result ≡ roomy n self w }
     {
-        (n <= self.vm.len())
-            & ((n <= self.va.len())
-                & ((n <= self.p.len())
-                    & ((n <= self.q.len()) & ((n <= self.kinds.len()) & (6144 <= w)))))
+        (n <= self.vm)
+            & ((n <= self.va)
+                & ((n <= self.p) & ((n <= self.q) & ((n <= self.kinds) & (6144 <= w)))))
     }
 }
 

@@ -15,7 +15,8 @@ use Rattle.pf_ac.specs.WithStart.{ac_pf_of}
 use Rattle.outcome.specs.declared.Solved.{Solved}
 use Rattle.outcome.specs.declared.Refusal.{Refusal}
 use Rattle.outcome.specs.declared.Refusal.TheVariants.{Counts, Room}
-use Rattle.outcome.specs.Outcome.{refusal_paper, Outs, Lengths, lengths_in, roomy, bus_refusal, zeros, Written, written, write_of}
+use Rattle.outcome.specs.declared.Lengths.{Lengths}
+use Rattle.outcome.specs.Outcome.{refusal_paper, Outs, lengths_in, roomy, bus_refusal, zeros, Written, written, write_of}
 
 -- ---- the checks and the run
 

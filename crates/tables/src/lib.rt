@@ -9,21 +9,28 @@ ghost use Rattle.outcome.specs.Outcome.{paper_of, outs_lent, SameOuts, OnePerBus
 ghost use Rattle.tables.specs.Tables.{checked_of, ran, run_of, answer, after_run, solve_of};
 
 use network::Tables;
-use outcome::{AnswerColumnsMut, Refusal, Solved};
+use outcome::{AnswerColumnsMut, Lengths, Refusal, Solved};
 use pf_ac::Kept;
 use starts::AcStart;
 
-// Refusals 7, 9, 8, 11, 12 and 13, in that order.
-pub fn check(t: Tables, out: &AnswerColumnsMut, w: &[f64]) -> Result<(), Refusal>
-    ensures { result ≡ checked_of (network_in t.entry) (lengths_in (outs_lent out.now)) (length w.now) }
+// Refusals 7, 9, 8, 11, 12 and 13, in that order, where the answer columns have so many places, and the workspace w of them.
+pub fn check(t: Tables, out: Lengths, w: usize) -> Result<(), Refusal>
+    ensures { result ≡ checked_of (network_in t.entry) out w }
 {
     if !t.counted() {
         return Err(Refusal::Counts);
     }
-    if !out.roomy(t.buses.kind.len(), w.len()) {
+    let n = t.buses.kind.len();
+    if !out.roomy(n, w) {
         return Err(Refusal::Room);
     }
-    outcome::bus_refusal(network::missing_bus(t))
+    outcome::bus_refusal(network::missing_bus(
+        n,
+        t.slacks.bus,
+        t.generators.bus,
+        t.branches,
+        t.triplets,
+    ))
 }
 
 // From ready tables to the result kept, with the workspace cleared.
@@ -67,6 +74,6 @@ pub fn solve(
     ensures answer { answer (paper_of result) (outs_lent out.new) w.new ≡ solve_of start (network_in t.entry) (outs_lent out.old) w.old }
     ensures same_columns { SameOuts out.old out.new }
 {
-    check(t, out, w)?;
+    check(t, out.lengths(), w.len())?;
     solve_ready(t, start, out, w)
 }

@@ -17,7 +17,8 @@ use Rattle.ybus.specs.Fault.{fault_of}
 use Rattle.ybus.specs.Fault.Laws.{Above, Meet, FirstFault}
 use Rattle.outcome.specs.declared.Refusal.{Refusal}
 use Rattle.outcome.specs.declared.Refusal.TheVariants.{Counts, Room, Slack, Generator, Branch, Triplet, Tap, Ends, NotConverged}
-use Rattle.outcome.specs.Outcome.{Lengths, row_refusal}
+use Rattle.outcome.specs.declared.Lengths.{Lengths}
+use Rattle.outcome.specs.Outcome.{row_refusal}
 use Rattle.branch_checks.specs.BranchChecks.{counted_branches, roomy_branches, fault_refusal, checked_rows_of, checked_branches_of}
 
 -- ---- the checks

@@ -5,6 +5,7 @@ use Rattle.real.specs.Tests.{both, both_l, both_r}
 use Rattle.network.specs.Columns.{branch_network_in}
 use Rattle.network.specs.Checks.{counted}
 use Rattle.network.specs.Checks.Laws.{counted_branches_lem}
+use Rattle.network.specs.Missing.{missing_in}
 use Rattle.network.specs.BranchTable.{with_triplets, no_triplets}
 use Rattle.network.specs.BranchTable.Laws.{values-sized}
 use Rattle.branch_checks.specs.BranchChecks.{counted_branches}
@@ -25,7 +26,7 @@ unfolding both
 returns-then-not-room c =
     check-room _ _ _ _
     (rw (c.counted.ensures, bare (goal.at.returns-then-not-room c).After-counted-2) at c.if-not-counts.false)
-    (rw (c.roomy.ensures, c.room.ensures) at c.if-not-room.true)
+    (rw (c.roomy.ensures, c.lengths.ensures, c.room.ensures) at c.if-not-room.true)
 
 pub check_rows-requires : goal.check_rows-requires
 unfolding both
@@ -34,9 +35,9 @@ check_rows-requires c =
     ((counted_branches_lem _ (both_r _ _ h)).to, (values-sized _ _ (both_l _ _ h)).tap)
 
 pub returns : goal.returns
-unfolding both
+unfolding both missing_in
 returns c =
     c.check_rows.ensures
-    ∙ check-rows _ _ _ _
+    ∙ check-rows (branch_network_in c.args.t) _ _ _
     (rw (c.counted.ensures, bare (goal.at.returns c).After-counted-2) at c.if-not-counts.false)
-    (rw (c.roomy.ensures, c.room.ensures) at c.if-not-room.false)
+    (rw (c.roomy.ensures, c.lengths.ensures, c.room.ensures) at c.if-not-room.false)

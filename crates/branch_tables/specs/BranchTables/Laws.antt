@@ -21,7 +21,8 @@ use Rattle.flows.specs.Flows.Laws.{flows-of-table}
 use Rattle.starts.specs.declared.AcStart.{AcStart}
 use Rattle.outcome.specs.declared.Solved.{Solved}
 use Rattle.outcome.specs.declared.Refusal.{Refusal}
-use Rattle.outcome.specs.Outcome.{paper_of, refusal_paper, Outs, Lengths, lengths_in}
+use Rattle.outcome.specs.declared.Lengths.{Lengths}
+use Rattle.outcome.specs.Outcome.{paper_of, refusal_paper, Outs, lengths_in}
 use Rattle.outcome.specs.Outcome.Laws.{one-per-bus}
 use Rattle.tables.specs.Tables.{Answer, checked_of, run_of, answer, after_run, solve_of}
 use Rattle.tables.specs.Tables.Laws.{met-ready, answer-one}

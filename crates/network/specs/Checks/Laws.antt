@@ -12,8 +12,6 @@ use Rattle.network.specs.Network.Laws.{room-buses, room-slacks, room-generators,
 use Rattle.network.specs.Checks.{sizes, buses_counted, slacks_counted, generators_counted, branches_counted, triplets_counted, counted}
 use Rattle.network.specs.Checks.{SizedBuses, SizedSlacks, SizedGenerators, SizedBranches, SizedTriplets, WellIndexed}
 
--- ---- lengths that are all n
-
 -- ---- each table's test tells its facts
 
 pub buses-sized : (t : Buses) → buses_counted t ≡ true → SizedBuses t

@@ -2,7 +2,7 @@
 use Rattle.std.proofs.lemmas.List.{length-replicate, get_or-replicate}
 use Rattle.real.specs.Literals.{nought}
 use Rattle.layout.specs.Table.{stores}
-use Rattle.std.specs.Prelude.{ℕ, ◌≤◌, true, false, cond, Result, Ok, Err, List, [], ◌∷◌, ◌++◌, take, drop, ◌≡◌, refl, length, eqb, Float, ◌<◌, replicate}
+use Rattle.std.specs.Prelude.{ℕ, ◌≤◌, true, false, cond, Result, Ok, Err, List, [], ◌∷◌, ◌++◌, take, drop, ◌≡◌, refl, length, eqb, Float, ◌<◌, replicate, get_or}
 use Rattle.std.proofs.Common.{sym, ap, ◌∙◌, leb-true, le_refl, ext_get_or}
 use Rattle.std.specs.Float.{nan}
 use Rattle.real.specs.Tests.{both_l, both_r}
@@ -19,7 +19,8 @@ use Rattle.moves.specs.Moves.{letters_of}
 use Rattle.outcome.specs.declared.Solved.{Solved}
 use Rattle.outcome.specs.declared.Refusal.{Refusal}
 use Rattle.outcome.specs.declared.Refusal.TheVariants.{Counts, Room, Slack, Generator, Branch, Triplet, Tap, Ends, NotConverged}
-use Rattle.outcome.specs.Outcome.{paper_of, refusal_paper, Outs, outs, lengths_in, Lengths, OnePerBus, roomy, with_answer, zeros}
+use Rattle.outcome.specs.declared.Lengths.{Lengths}
+use Rattle.outcome.specs.Outcome.{paper_of, refusal_paper, Outs, outs, lengths_in, OnePerBus, roomy, with_answer, zeros}
 
 -- ---- the room
 
@@ -42,30 +43,30 @@ one-per-bus n m space h =
 
 -- ---- the writing
 
--- the five columns, each by itself: the first places are copied, and the rest stays
+-- the five columns, each by itself
 pub answer-written : (n : ℕ) (y : Triplets) (point : Point) (kept : List BusKind) (o : Outs) (found : Injections) → found ≡ injections_of n y point.vm point.va
+    → (letters : List ℕ) → letters ≡ letters_of n kept → (vm va p q : List Float) (kinds : List ℕ)
+    → vm ≡ stores (λ b. get_or point.vm b nan) n o.vm → va ≡ stores (λ b. get_or point.va b nan) n o.va
+    → p ≡ stores (λ b. get_or found.power.p b nan) n o.p → q ≡ stores (λ b. get_or found.power.q b nan) n o.q
+    → kinds ≡ stores (λ b. get_or letters b 0) n o.kinds → outs vm va p q kinds ≡ with_answer n y point kept o
+unfolding with_answer
+answer-written n y point kept o found ef letters el vm va p q kinds em ea ep eq ek = rw (em, ea, ep, eq, ek, el, ef)
+
+-- the same where the first places are copied, and the rest stays
+pub answer-copied : (n : ℕ) (y : Triplets) (point : Point) (kept : List BusKind) (o : Outs) (found : Injections) → found ≡ injections_of n y point.vm point.va
     → (letters : List ℕ) → letters ≡ letters_of n kept → OnePerBus n (lengths_in o)
     → n ≤ length point.vm → n ≤ length point.va → n ≤ length found.power.p → n ≤ length found.power.q → n ≤ length letters
     → (vm va p q : List Float) (kinds : List ℕ)
     → vm ≡ take n point.vm ++ drop n o.vm → va ≡ take n point.va ++ drop n o.va
     → p ≡ take n found.power.p ++ drop n o.p → q ≡ take n found.power.q ++ drop n o.q
     → kinds ≡ take n letters ++ drop n o.kinds → outs vm va p q kinds ≡ with_answer n y point kept o
-unfolding with_answer
-answer-written n y point kept o found ef letters el room lm la lp lq lk vm va p q kinds em ea ep eq ek =
-    rw (
-      em,
-      ea,
-      ep,
-      eq,
-      ek,
-      stored-taken n point.vm o.vm nan lm room.vm,
-      stored-taken n point.va o.va nan la room.va,
-      stored-taken n found.power.p o.p nan lp room.p,
-      stored-taken n found.power.q o.q nan lq room.q,
-      stored-taken n letters o.kinds 0 lk room.kinds,
-      el,
-      ef,
-    )
+answer-copied n y point kept o found ef letters el room lm la lp lq lk vm va p q kinds em ea ep eq ek =
+    answer-written n y point kept o found ef letters el vm va p q kinds
+    (em ∙ stored-taken n point.vm o.vm nan lm room.vm)
+    (ea ∙ stored-taken n point.va o.va nan la room.va)
+    (ep ∙ stored-taken n found.power.p o.p nan lp room.p)
+    (eq ∙ stored-taken n found.power.q o.q nan lq room.q)
+    (ek ∙ stored-taken n letters o.kinds 0 lk room.kinds)
 
 -- a workspace written over with +0.0, place by place
 pub zeros-are : (w : List Float) → stores (λ b. nought) (length w) w ≡ zeros w

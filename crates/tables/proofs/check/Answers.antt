@@ -1,6 +1,7 @@
 -- `tables::check` meets its contract: each way out with the checks before it. Assumes nothing.
 use Rattle.std.proofs.Common.{sym, ap, ◌∙◌}
 use Rattle.network.specs.Checks.Laws.{counted_branches_lem, counted-triplets}
+use Rattle.network.specs.Missing.{missing_in}
 use Rattle.outcome.specs.Outcome.{bus_refusal}
 use Rattle.tables.specs.Tables.Laws.{check-counts, check-room, check-buses}
 use Rattle.tables.proofs.check.Goals as goal
@@ -18,6 +19,7 @@ missing_bus-requires c =
     ((counted_branches_lem _ h).to, (counted-triplets _ h).col)
 
 pub returns : goal.returns
+unfolding missing_in
 returns c =
     c.bus_refusal.ensures ∙ ap bus_refusal c.missing_bus.ensures
     ∙ check-buses _ _ _ (sym c.counted.ensures ∙ c.if-not-counted.false) (sym c.roomy.ensures ∙ c.if-not-roomy.false)

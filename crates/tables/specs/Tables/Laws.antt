@@ -18,7 +18,8 @@ use Rattle.pf_ac.specs.WithStart.{ac_pf_of}
 use Rattle.outcome.specs.declared.Solved.{Solved}
 use Rattle.outcome.specs.declared.Refusal.{Refusal}
 use Rattle.outcome.specs.declared.Refusal.TheVariants.{Counts, Room}
-use Rattle.outcome.specs.Outcome.{paper_of, refusal_paper, Outs, Lengths, lengths_in, roomy, row_refusal, bus_refusal, written, write_of, zeros}
+use Rattle.outcome.specs.declared.Lengths.{Lengths}
+use Rattle.outcome.specs.Outcome.{paper_of, refusal_paper, Outs, lengths_in, roomy, row_refusal, bus_refusal, written, write_of, zeros}
 use Rattle.outcome.specs.Outcome.Laws.{paper-one}
 use Rattle.tables.specs.Tables.{Answer, checked_of, ran, run_of, answer, after_run, solve_of}
 
