@@ -220,22 +220,6 @@ impl<'a> BusColumns<'a> {
         (n <= 32) & equal
     }
 
-    // The same columns, lent on for a shorter time.
-    fn again(&self) -> BusColumns<'_>
-        ensures { buses_in result ≡ buses_in self.now }
-    {
-        BusColumns {
-            kind: self.kind,
-            vm_set: self.vm_set,
-            pd: self.pd,
-            qd: self.qd,
-            pg: self.pg,
-            qg: self.qg,
-            vm_case: self.vm_case,
-            va_case: self.va_case,
-        }
-    }
-
     // The first n rows.
     pub fn first(self, n: usize) -> BusColumns<'a>
         requires { RoomBuses n (buses_in self) }
@@ -296,16 +280,6 @@ impl<'a> SlackColumns<'a> {
         (self.bus.len() <= 32) & (self.angle.len() == self.bus.len())
     }
 
-    // The same columns, lent on for a shorter time.
-    fn again(&self) -> SlackColumns<'_>
-        ensures { slacks_in result ≡ slacks_in self.now }
-    {
-        SlackColumns {
-            bus: self.bus,
-            angle: self.angle,
-        }
-    }
-
     // The first n rows.
     pub fn first(self, n: usize) -> SlackColumns<'a>
         requires { RoomSlacks n (slacks_in self) }
@@ -344,17 +318,6 @@ impl<'a> GeneratorColumns<'a> {
     {
         let n = self.bus.len();
         (n <= 32) & same(n, [self.qmin.len(), self.qmax.len()])
-    }
-
-    // The same columns, lent on for a shorter time.
-    fn again(&self) -> GeneratorColumns<'_>
-        ensures { generators_in result ≡ generators_in self.now }
-    {
-        GeneratorColumns {
-            bus: self.bus,
-            qmin: self.qmin,
-            qmax: self.qmax,
-        }
     }
 
     // The first n rows.
@@ -396,16 +359,6 @@ impl<'a> BranchColumns<'a> {
         ensures { result ≡ branches_counted (branches_in self.entry) }
     {
         (self.from.len() <= 64) & (self.to.len() == self.from.len())
-    }
-
-    // The same columns, lent on for a shorter time.
-    fn again(&self) -> BranchColumns<'_>
-        ensures { branches_in result ≡ branches_in self.now }
-    {
-        BranchColumns {
-            from: self.from,
-            to: self.to,
-        }
     }
 
     // The first n rows.
@@ -631,14 +584,14 @@ impl<'a> BranchTables<'a> {
     }
 
     // The same case with these triplets, as the first edition has it.
-    pub fn with_triplets<'s>(&'s self, triplets: TripletColumns<'s>) -> Tables<'s>
-        ensures { network_in result ≡ with_triplets (branch_network_in self.now) (triplets_in triplets.entry) }
+    pub fn with_triplets(self, triplets: TripletColumns<'a>) -> Tables<'a>
+        ensures { network_in result ≡ with_triplets (branch_network_in self.entry) (triplets_in triplets.entry) }
     {
         Tables {
-            buses: self.buses.again(),
-            slacks: self.slacks.again(),
-            generators: self.generators.again(),
-            branches: self.ends.again(),
+            buses: self.buses,
+            slacks: self.slacks,
+            generators: self.generators,
+            branches: self.ends,
             triplets,
         }
     }
