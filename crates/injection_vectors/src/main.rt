@@ -156,10 +156,7 @@ fn place(s: &[u8], from: usize, dim: usize, i: usize) -> f64
 {
     let row = i / 64;
     let col = i % 64;
-    if dim <= row {
-        return 0.0;
-    }
-    if dim <= col {
+    if dim <= row || dim <= col {
         return 0.0;
     }
     let k = row * dim + col;
@@ -254,13 +251,7 @@ fn next(head: &mut [u8; 24], body: &mut [u8; 43520]) -> Option<bool>
     let n = vectors::word(head, 0) as usize;
     let m = vectors::word(head, 8) as usize;
     let dim = vectors::word(head, 16) as usize;
-    if n > 32 {
-        return None;
-    }
-    if m > 256 {
-        return None;
-    }
-    if dim > 64 {
+    if n > 32 || m > 256 || dim > 64 {
         return None;
     }
     if !vectors::read(STDIN_FILENO, body, m * 32 + n * 80 + dim * dim * 8) {

@@ -2,7 +2,7 @@
 // the right side of row r at 4096 + r. The solution is left in the right side's places.
 #![tactic(auto)]
 
-ghost use Rattle.std.specs.Prelude.{◌≡◌, ◌+◌, ◌-◌, ◌*◌, ◌≤◌, ◌<◌, length};
+ghost use Rattle.std.specs.Prelude.{◌≡◌, ◌+◌, ◌-◌, ◌*◌, ◌≤◌, ◌<◌, length, unwrap_or, IfSome};
 ghost use Rattle.real.specs.Literals.{nought};
 ghost use Rattle.linsolve.specs.Linear.{at, zeroed, cleared, added, pivot_from, swap_rows, sub_row, after_pivot, sub_lower, outcome, reduce, less_known, substitute, solution};
 
@@ -38,19 +38,20 @@ pub fn add_entry(w: &mut [f64], row: usize, col: usize, x: f64)
     w[i] = w[i] + x;
 }
 
-// The row of the pivot of a column, at or below the diagonal; dim where there is none.
-fn pivot_row(w: &[f64], dim: usize, col: usize) -> usize
+// The row of the pivot of a column, at or below the diagonal.
+fn pivot_row(w: &[f64], dim: usize, col: usize) -> Option<usize>
     requires { (4160 ≤ length w.now) × (dim ≤ 64) × (col < dim) }
-    ensures { result ≡ pivot_from (dim - col) col col nought dim w.now }
+    ensures is { unwrap_or result dim ≡ pivot_from (dim - col) col col nought dim w.now }
+    ensures within { IfSome result (λ p. p < dim) }
 {
     let mut best = 0.0;
-    let mut p = dim;
+    let mut p = None;
     for r in col..dim {
         let i = r * 64 + col;
         let x = real::abs(w[i]);
         if x > best {
             best = x;
-            p = r;
+            p = Some(r);
         }
     }
     p
@@ -101,10 +102,9 @@ fn reduce_rows(w: &mut [f64], dim: usize) -> Result<(), Singular>
     ensures { outcome result w.new ≡ reduce after_pivot dim 0 dim w.old }
 {
     for col in 0..dim {
-        let p = pivot_row(w, dim, col);
-        if p == dim {
+        let Some(p) = pivot_row(w, dim, col) else {
             return Err(Singular { column: col });
-        }
+        };
         swap_rows(w, dim, col, p);
         sub_lower(w, dim, col);
     }

@@ -57,8 +57,8 @@ fn fill(w: &mut [f64], s: &[u8], dim: usize)
     requires { (dim ≤ 64) × (length w.old ≡ 4224) × (size_of dim * 8 ≤ length s.now) }
     ensures { Holds w.new s.now 0 dim }
 {
-    for i in 0..4224 {
-        w[i] = told(s, 0, dim, i);
+    for (i, x) in w.iter_mut().enumerate() {
+        *x = told(s, 0, dim, i);
     }
 }
 
@@ -66,8 +66,8 @@ fn holds(w: &[f64], s: &[u8], from: usize, dim: usize) -> bool
     requires { (dim ≤ 64) × (length w.now ≡ 4224) × (from + size_of dim * 8 ≤ length s.now) }
     ensures { Tells result (Holds w.now s.now from dim) }
 {
-    for i in 0..4224 {
-        if !vectors::same(w[i], told(s, from, dim, i)) {
+    for (i, &x) in w.iter().enumerate() {
+        if !vectors::same(x, told(s, from, dim, i)) {
             return false;
         }
     }

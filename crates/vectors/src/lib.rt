@@ -1,4 +1,5 @@
-// What the test programs share: their input's bytes, words and doubles, whether two doubles are one value, and the last line.
+// What the test programs share: their input's bytes, words and doubles, whether two doubles are one value, the comparison of all records,
+// and the last line.
 #![tactic(auto)]
 
 ghost use Rattle.std.specs.Prelude.{◌≡◌, ◌+◌, ◌≤◌, ◌<◌, length};
@@ -53,10 +54,10 @@ pub fn double_at(s: &[u8], at: usize) -> f64
 pub fn same(x: f64, y: f64) -> bool
     ensures { Tells result (x ≡ y) }
 {
-    if x != x {
-        return y != y;
+    if real::is_nan(x) {
+        return real::is_nan(y);
     }
-    if y != y {
+    if real::is_nan(y) {
         return false;
     }
     f64::to_bits(x) == f64::to_bits(y)

@@ -125,7 +125,7 @@ fn diagonals(ends: BranchColumns, y: [Admittance; 64]) -> [Complex; 32]
     requires { SizedBranches (branches_in ends) × Below 32 ends.from.now × Below 32 ends.to.now }
     ensures { result ≡ sums_to (length ends.entry.from.now) (branches_in ends.entry) y }
 {
-    let mut d = [Complex::new(0.0, 0.0); 32];
+    let mut d = [Complex::ZERO; 32];
     for e in 0..ends.from.len() {
         let i = ends.from[e];
         let k = ends.to[e];

@@ -11,7 +11,8 @@ loop-r-preserved c =
     let dim = c.args.dim in
     let e : dim - c.loop-r.r ≡ suc (dim - (c.loop-r.r + 1)) = omega arith in
     let x = c.abs-x.ensures in
-    elim c.if-x-best.branch [ then-x-best y ↦ rw (y.best-is, y.p-is) (rw (e, pivot-above _ _ _ _ _ _ _ x y.if-x-best.true) at c.loop-r.invariant) | else-x-best y ↦ rw (y.best-is, y.p-is) (rw (e, pivot-not-above _ _ _ _ _ _ _ x y.if-x-best.false) at c.loop-r.invariant) ]
+    let (left, within) = c.loop-r.invariant in
+    elim c.if-x-best.branch [ then-x-best y ↦ rw (y.best-is, y.p-is) (rw (e, pivot-above _ _ _ _ _ _ _ x y.if-x-best.true) at left, c.loop-r-test.true) | else-x-best y ↦ rw (y.best-is, y.p-is) (rw (e, pivot-not-above _ _ _ _ _ _ _ x y.if-x-best.false) at left, within) ]
 
-pub returns : goal.returns
-returns c = let e : c.args.dim - c.loop-r.r ≡ 0 = omega arith in rw (e, pivot-end) at c.loop-r.invariant
+pub returns-clause-is : goal.returns-clause-is
+returns-clause-is c = let e : c.args.dim - c.loop-r.r ≡ 0 = omega arith in rw (e, pivot-end) at c.loop-r.invariant.0

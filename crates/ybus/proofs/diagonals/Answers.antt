@@ -6,7 +6,7 @@ use Rattle.ybus.specs.Ybus.Laws.{sums-begin, sums-turn}
 use Rattle.ybus.proofs.diagonals.Goals as goal
 
 pub loop-e-init : goal.loop-e-init
-loop-e-init c = (omega arith, refl, rw c.new-d.ensures (sums-begin _ c.args.y))
+loop-e-init c = (omega arith, refl, sums-begin _ c.args.y)
 
 pub loop-e-preserved : goal.loop-e-preserved
 loop-e-preserved c =
