@@ -22,7 +22,7 @@ fn piece(l: &[u8], n: usize) -> &[u8]
 {
     let e = l.len();
     let mut i: usize = 0;
-    // By `find`: the next piece begins after the space that it finds.
+    // By `find` and not `split`: the laws on pieces speak of the place found.
     for _k in 0..n {
         let q = fields::find(l, i, e, b' ');
         if q == e {
@@ -88,7 +88,7 @@ fn fill<T: Cell>(l: &[u8], j: usize, out: &mut [T])
 {
     let e = l.len();
     let mut i: usize = 0;
-    // By `find`: the next line begins after the LF that it finds.
+    // By `find` and not `split`: the laws on a section's rows speak of the place found.
     for x in out.iter_mut() {
         let p = fields::find(l, i, e, b'\n');
         if p == e {
