@@ -1,9 +1,8 @@
-// The columns of a case text: field j of each line of a section goes to one place per row. The section stands from a up to e and was found good;
+// The columns of a case text: field j of each line of a section goes to one place per row. A section comes as its bytes, l, and was found good;
 // a column has a place for each of its rows.
 #![tactic(auto)]
 
 ghost use Rattle.std.specs.Prelude.{◌≡◌, ℕ, ◌+◌, ◌≤◌, ◌<◌, List, [], length, get_or};
-ghost use Rattle.std.proofs.Math.Seq.{slice};
 ghost use Rattle.fields.specs.Cut.{pieces};
 ghost use Rattle.network.specs.Network.{RoomBuses, RoomSlacks, RoomGenerators, RoomBranches, RoomTriplets};
 ghost use Rattle.network.specs.BranchTable.{RoomValues};
@@ -18,11 +17,12 @@ use network::{
 };
 
 // Piece n between the spaces of a line, empty where there is none.
-fn piece<'a>(l: &'a [u8], n: usize) -> &'a [u8]
+fn piece(l: &[u8], n: usize) -> &[u8]
     ensures { result.now ≡ get_or (pieces 32 l.now) n [] }
 {
     let e = l.len();
     let mut i: usize = 0;
+    // By `find` and not `split`: the laws on pieces speak of the place found.
     for _k in 0..n {
         let q = fields::find(l, i, e, b' ');
         if q == e {
@@ -82,94 +82,95 @@ fn cell_at<T: Cell>(l: &[u8], j: usize) -> T
 }
 
 // Field j of each line of a section.
-fn fill<T: Cell>(s: &[u8], a: usize, e: usize, j: usize, out: &mut [T])
-    requires within { (a ≤ e) × (e ≤ length s.now) }
-    requires room { (j < 16) × (row_count (slice a e s.now) ≤ length out.old) }
-    ensures { out.new ≡ filled (λ r. T.value (cell_of j r)) (slice a e s.now) out.old }
+fn fill<T: Cell>(l: &[u8], j: usize, out: &mut [T])
+    requires { (j < 16) × (row_count l.now ≤ length out.old) }
+    ensures { out.new ≡ filled (λ r. T.value (cell_of j r)) l.now out.old }
 {
-    let mut i = a;
+    let e = l.len();
+    let mut i: usize = 0;
+    // By `find` and not `split`: the laws on a section's rows speak of the place found.
     for x in out.iter_mut() {
-        let p = fields::find(s, i, e, b'\n');
+        let p = fields::find(l, i, e, b'\n');
         if p == e {
             return;
         }
-        *x = cell_at(&s[i..p], j);
+        *x = cell_at(&l[i..p], j);
         i = p + 1;
     }
 }
 
 // `B kind vm_set pd qd pg qg vm_case va_case`.
-pub fn fill_buses(s: &[u8], a: usize, e: usize, out: &mut BusColumnsMut)
-    requires { (a ≤ e) × (e ≤ length s.now) × RoomBuses (row_count (slice a e s.now)) (buses_lent out.old) }
-    ensures filled { buses_lent out.new ≡ filled_buses (slice a e s.now) (buses_lent out.old) }
+pub fn fill_buses(l: &[u8], out: &mut BusColumnsMut)
+    requires { RoomBuses (row_count l.now) (buses_lent out.old) }
+    ensures filled { buses_lent out.new ≡ filled_buses l.now (buses_lent out.old) }
     ensures same_columns { SameBuses out.old out.new }
 {
-    fill(s, a, e, 0, out.kind);
-    fill(s, a, e, 1, out.vm_set);
-    fill(s, a, e, 2, out.pd);
-    fill(s, a, e, 3, out.qd);
-    fill(s, a, e, 4, out.pg);
-    fill(s, a, e, 5, out.qg);
-    fill(s, a, e, 6, out.vm_case);
-    fill(s, a, e, 7, out.va_case);
+    fill(l, 0, out.kind);
+    fill(l, 1, out.vm_set);
+    fill(l, 2, out.pd);
+    fill(l, 3, out.qd);
+    fill(l, 4, out.pg);
+    fill(l, 5, out.qg);
+    fill(l, 6, out.vm_case);
+    fill(l, 7, out.va_case);
 }
 
 // `R bus angle`.
-pub fn fill_slacks(s: &[u8], a: usize, e: usize, out: &mut SlackColumnsMut)
-    requires { (a ≤ e) × (e ≤ length s.now) × RoomSlacks (row_count (slice a e s.now)) (slacks_lent out.old) }
-    ensures filled { slacks_lent out.new ≡ filled_slacks (slice a e s.now) (slacks_lent out.old) }
+pub fn fill_slacks(l: &[u8], out: &mut SlackColumnsMut)
+    requires { RoomSlacks (row_count l.now) (slacks_lent out.old) }
+    ensures filled { slacks_lent out.new ≡ filled_slacks l.now (slacks_lent out.old) }
     ensures same_columns { SameSlacks out.old out.new }
 {
-    fill(s, a, e, 0, out.bus);
-    fill(s, a, e, 1, out.angle);
+    fill(l, 0, out.bus);
+    fill(l, 1, out.angle);
 }
 
 // `G bus qmin qmax`.
-pub fn fill_generators(s: &[u8], a: usize, e: usize, out: &mut GeneratorColumnsMut)
-    requires { (a ≤ e) × (e ≤ length s.now) × RoomGenerators (row_count (slice a e s.now)) (generators_lent out.old) }
-    ensures filled { generators_lent out.new ≡ filled_generators (slice a e s.now) (generators_lent out.old) }
+pub fn fill_generators(l: &[u8], out: &mut GeneratorColumnsMut)
+    requires { RoomGenerators (row_count l.now) (generators_lent out.old) }
+    ensures filled { generators_lent out.new ≡ filled_generators l.now (generators_lent out.old) }
     ensures same_columns { SameGenerators out.old out.new }
 {
-    fill(s, a, e, 0, out.bus);
-    fill(s, a, e, 1, out.qmin);
-    fill(s, a, e, 2, out.qmax);
+    fill(l, 0, out.bus);
+    fill(l, 1, out.qmin);
+    fill(l, 2, out.qmax);
 }
 
 // `L from to`, and the ends of a `K` line.
-pub fn fill_branches(s: &[u8], a: usize, e: usize, out: &mut BranchColumnsMut)
-    requires { (a ≤ e) × (e ≤ length s.now) × RoomBranches (row_count (slice a e s.now)) (branches_lent out.old) }
-    ensures filled { branches_lent out.new ≡ filled_branches (slice a e s.now) (branches_lent out.old) }
+pub fn fill_branches(l: &[u8], out: &mut BranchColumnsMut)
+    requires { RoomBranches (row_count l.now) (branches_lent out.old) }
+    ensures filled { branches_lent out.new ≡ filled_branches l.now (branches_lent out.old) }
     ensures same_columns { SameBranches out.old out.new }
 {
-    fill(s, a, e, 0, out.from);
-    fill(s, a, e, 1, out.to);
+    fill(l, 0, out.from);
+    fill(l, 1, out.to);
 }
 
 // `Y row col re im`.
-pub fn fill_triplets(s: &[u8], a: usize, e: usize, out: &mut TripletColumnsMut)
-    requires { (a ≤ e) × (e ≤ length s.now) × RoomTriplets (row_count (slice a e s.now)) (triplets_lent out.old) }
-    ensures filled { triplets_lent out.new ≡ filled_triplets (slice a e s.now) (triplets_lent out.old) }
+pub fn fill_triplets(l: &[u8], out: &mut TripletColumnsMut)
+    requires { RoomTriplets (row_count l.now) (triplets_lent out.old) }
+    ensures filled { triplets_lent out.new ≡ filled_triplets l.now (triplets_lent out.old) }
     ensures same_columns { SameTriplets out.old out.new }
 {
-    fill(s, a, e, 0, out.row);
-    fill(s, a, e, 1, out.col);
-    fill(s, a, e, 2, out.re);
-    fill(s, a, e, 3, out.im);
+    fill(l, 0, out.row);
+    fill(l, 1, out.col);
+    fill(l, 2, out.re);
+    fill(l, 3, out.im);
 }
 
 // `K from to g b g_fr b_fr g_to b_to tap shift sw`: the numbers beside the ends.
-pub fn fill_values(s: &[u8], a: usize, e: usize, out: &mut ValueColumnsMut)
-    requires { (a ≤ e) × (e ≤ length s.now) × RoomValues (row_count (slice a e s.now)) (values_lent out.old) }
-    ensures filled { values_lent out.new ≡ filled_values (slice a e s.now) (values_lent out.old) }
+pub fn fill_values(l: &[u8], out: &mut ValueColumnsMut)
+    requires { RoomValues (row_count l.now) (values_lent out.old) }
+    ensures filled { values_lent out.new ≡ filled_values l.now (values_lent out.old) }
     ensures same_columns { SameValues out.old out.new }
 {
-    fill(s, a, e, 2, out.g);
-    fill(s, a, e, 3, out.b);
-    fill(s, a, e, 4, out.g_fr);
-    fill(s, a, e, 5, out.b_fr);
-    fill(s, a, e, 6, out.g_to);
-    fill(s, a, e, 7, out.b_to);
-    fill(s, a, e, 8, out.tap);
-    fill(s, a, e, 9, out.shift);
-    fill(s, a, e, 10, out.sw);
+    fill(l, 2, out.g);
+    fill(l, 3, out.b);
+    fill(l, 4, out.g_fr);
+    fill(l, 5, out.b_fr);
+    fill(l, 6, out.g_to);
+    fill(l, 7, out.b_to);
+    fill(l, 8, out.tap);
+    fill(l, 9, out.shift);
+    fill(l, 10, out.sw);
 }

@@ -23,9 +23,9 @@ fn fill_sources(text: &[u8], p: Places, sources: &mut SourcesMut)
         × (generators_lent sources.new.generators ≡ filled_generators (slice p.g p.lines text.now) (generators_lent sources.old.generators)) }
     ensures same_columns { SameSources sources.old sources.new }
 {
-    columns::fill_buses(text, p.b, p.r, &mut sources.buses);
-    columns::fill_slacks(text, p.r, p.g, &mut sources.slacks);
-    columns::fill_generators(text, p.g, p.lines, &mut sources.generators);
+    columns::fill_buses(&text[p.b..p.r], &mut sources.buses);
+    columns::fill_slacks(&text[p.r..p.g], &mut sources.slacks);
+    columns::fill_generators(&text[p.g..p.lines], &mut sources.generators);
 }
 
 // Reads a text by the first edition's rules: all 19 columns where it is good, one place per row, and none of them where it is refused.
@@ -41,8 +41,8 @@ pub fn read_triplets(
     let contents = case_text::judge(text, Edition::First, room)?;
     let p = trailer::section_places(text, Edition::First);
     fill_sources(text, p, sources);
-    columns::fill_branches(text, p.lines, p.triplets, &mut lines.branches);
-    columns::fill_triplets(text, p.triplets, p.t, &mut lines.triplets);
+    columns::fill_branches(&text[p.lines..p.triplets], &mut lines.branches);
+    columns::fill_triplets(&text[p.triplets..p.t], &mut lines.triplets);
     Ok(contents)
 }
 
@@ -59,7 +59,7 @@ pub fn read_branches(
     let contents = case_text::judge(text, Edition::Second, room)?;
     let p = trailer::section_places(text, Edition::Second);
     fill_sources(text, p, sources);
-    columns::fill_branches(text, p.lines, p.triplets, &mut table.ends);
-    columns::fill_values(text, p.lines, p.triplets, &mut table.values);
+    columns::fill_branches(&text[p.lines..p.triplets], &mut table.ends);
+    columns::fill_values(&text[p.lines..p.triplets], &mut table.values);
     Ok(contents)
 }

@@ -116,6 +116,7 @@ fn spaced(f: &[u8], n: usize) -> bool
     let e = f.len();
     let mut i: usize = 0;
     let mut k: usize = 0;
+    // By `find` and not `split`: the laws on pieces speak of the place found.
     loop {
         let q = fields::find(f, i, e, b' ');
         if q == i {
@@ -145,6 +146,7 @@ fn check_fields(s: &[u8], a: usize, e: usize, z: Section) -> Result<(), Fault>
 {
     let mut i = a;
     let mut j: usize = 0;
+    // By `find` and not `split`: a refusal tells the field's place.
     loop {
         let q = fields::find(s, i, e, b' ');
         if !good(&s[i..q], z.wanted(j)) {
@@ -176,6 +178,7 @@ pub fn check_section(s: &[u8], a: usize, e: usize, z: Section) -> Result<usize, 
 {
     let mut i = a;
     let mut r: usize = 0;
+    // By `find` and not `split`: a refusal tells the line's place.
     while i < e {
         if z.size() <= r {
             return Err(Fault::Rows(i));
