@@ -9,7 +9,6 @@ use Rattle.network.specs.BranchTable.{BranchNetwork, values_counted, with_triple
 use Rattle.ybus.specs.declared.Fault.{Fault}
 use Rattle.ybus.specs.declared.Fault.TheVariants as Fault
 use Rattle.ybus.specs.Fault.{fault_of}
-use Rattle.outcome.specs.declared.Solved.{Solved}
 use Rattle.outcome.specs.declared.Refusal.{Refusal}
 use Rattle.outcome.specs.declared.Refusal.TheVariants.{Counts, Room, Tap, Ends}
 use Rattle.outcome.specs.declared.Lengths.{Lengths}

@@ -12,7 +12,6 @@ use Rattle.ybus.specs.Ybus.{Fit, ybus_of}
 use Rattle.flows.specs.declared.Flows.{Flows}
 use Rattle.flows.specs.Flows.{with_flows, flows_room}
 use Rattle.starts.specs.declared.AcStart.{AcStart}
-use Rattle.outcome.specs.declared.Solved.{Solved}
 use Rattle.outcome.specs.declared.Refusal.{Refusal}
 use Rattle.outcome.specs.declared.Lengths.{Lengths}
 use Rattle.outcome.specs.Outcome.{refusal_paper, Outs, lengths_in, OnePerBus}

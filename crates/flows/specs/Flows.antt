@@ -1,7 +1,7 @@
 -- 02, Ask 5: "give for each branch the active and reactive power entering at each end: the end's voltage times the conjugate of its own current, from the same
 -- four admittances, with the from-side product added before the to-side one. The loss is the sum of the two active figures, from end first."
 pub mod Laws
-use Rattle.std.specs.Prelude.{ℕ, ◌≤◌, ◌≡◌, min, List, length, replicate, Float}
+use Rattle.std.specs.Prelude.{ℕ, ◌≤◌, min, List, length, replicate, Float}
 use Rattle.std.specs.Float.{binary64}
 use Rattle.std.specs.Float.Ieee.{add}
 use Rattle.real.specs.Literals.{nought}

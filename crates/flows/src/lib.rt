@@ -23,7 +23,7 @@ pub struct Flow {
     pub loss: f64,
 }
 
-// The same of up to 64 branches, in columns.
+// The same of up to 64 branches, in the columns in which they are lent and printed.
 #[derive(Clone, Copy)]
 pub struct Flows {
     pub pf: [f64; 64],

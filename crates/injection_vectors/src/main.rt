@@ -2,7 +2,7 @@
 // says (oracle/injection_vectors.py has the format).
 #![tactic(auto)]
 
-ghost use Rattle.std.specs.Prelude.{◌≡◌, ℕ, ◌+◌, ◌*◌, ◌≤◌, ◌<◌, List, length, get_or, replicate};
+ghost use Rattle.std.specs.Prelude.{◌≡◌, ℕ, ◌+◌, ◌*◌, ◌≤◌, ◌<◌, List, length, replicate};
 ghost use Rattle.network.specs.Below.{Below};
 ghost use Rattle.network.specs.Columns.{triplets_in};
 ghost use Rattle.layout.specs.Table.{stores};

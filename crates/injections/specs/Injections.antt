@@ -7,7 +7,7 @@ use Rattle.real.specs.Literals.{nought}
 use Rattle.complex.specs.declared.Complex.{Complex}
 use Rattle.complex.specs.Numbers as Numbers
 use Rattle.complex.specs.Numbers.{complex, sum_of, conjugate_of, product_of, polar_of}
-use Rattle.network.specs.Network.{Triplets, triplets_of}
+use Rattle.network.specs.Network.{Triplets}
 use Rattle.network.specs.Below.{Below}
 use Rattle.layout.specs.Table.{table}
 use Rattle.injections.specs.declared.Phasors.{Phasors}

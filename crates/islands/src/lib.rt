@@ -6,7 +6,7 @@ ghost use Rattle.real.specs.Each.{each};
 ghost use Rattle.islands.specs.Forest.{Forest, Grown, joined_root, or_insert};
 ghost use Rattle.islands.specs.Islands.{Ends, island_of, label_by, labels_of, label_table};
 
-// The root above `node`. Each bus passed is hung one place higher on the way.
+// The root above `node`. Each bus passed is hung one place higher on the way. The loop climbs, and counts nothing.
 fn find(parent: &mut [usize; 32], node: usize) -> usize
     requires { (node < 32) × Grown parent.old }
     ensures { (result < 32) × ((rank root : ℕ → ℕ) → Forest rank root parent.old → (result ≡ root node) × Forest rank root parent.new) }

@@ -27,7 +27,7 @@ pub enum Unknown {
     Magnitude,
 }
 
-// A missing column or row.
+// A missing column or row: a marked number, as 01 has it.
 pub const NONE: usize = 64;
 
 // The unknowns and equations of each bus. Columns: angles of non-slack buses, then magnitudes of Pq buses. Rows match, so one number is a bus's

@@ -25,6 +25,7 @@ pub enum Limit {
 }
 
 // What a round changes beside the kinds: each bus's schedule, the limit at which it is fixed if it is converted, and whether it has been reverted.
+// Tables of their own, since the schedules are handed to Newton by themselves.
 #[derive(Clone, Copy)]
 pub struct Track {
     pub qsched: [f64; 32],

@@ -1,6 +1,6 @@
 -- 01, "Tables and sizes", with 02's Ask 1: what a solve over tables answers, and what is written in the five answer columns and in the workspace.
 pub mod Laws
-use Rattle.std.specs.Prelude.{ℕ, ◌≤◌, ◌≡◌, Bool, Option, Some, None, Result, Ok, Err, List, [], ◌∷◌, leb, length, get_or, replicate, Float}
+use Rattle.std.specs.Prelude.{ℕ, ◌≤◌, Bool, Option, Some, None, Result, Ok, Err, List, [], ◌∷◌, leb, length, get_or, replicate, Float}
 use Rattle.std.specs.Float.{nan}
 use Rattle.real.specs.Tests.{both}
 use Rattle.real.specs.declared.Value.TheVariants.{Whole, Real}

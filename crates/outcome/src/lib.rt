@@ -1,7 +1,7 @@
 // What a solve over tables answers, and what it writes: the refusals, the five answer columns, the workspace.
 #![tactic(auto)]
 
-ghost use Rattle.std.specs.Prelude.{◌≡◌, ◌≤◌, ◌++◌, take, drop, length, get_or};
+ghost use Rattle.std.specs.Prelude.{◌≡◌, ◌≤◌, ◌++◌, take, drop, length};
 ghost use Rattle.network.specs.Columns.{triplets_in};
 ghost use Rattle.injections.specs.Injections.{GoodTriplets};
 ghost use Rattle.outcome.specs.Outcome.{paper_of, outs_in, outs_lent, SameOuts, OnePerBus, lengths_in, roomy, row_refusal, bus_refusal, with_answer, zeros, written, write_of};

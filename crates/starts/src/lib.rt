@@ -17,7 +17,7 @@ pub enum AcStart {
     Case,
 }
 
-// Of each bus: the slack of its island, if there is one, and the reference angle.
+// Of each bus: the slack of its island, if there is one, and the reference angle. Tables of their own, since the angles are those of the flat start.
 #[derive(Clone, Copy)]
 pub struct References {
     pub slack: [Option<usize>; 32],

@@ -12,7 +12,6 @@ use Rattle.starts.specs.declared.AcStart.{AcStart}
 use Rattle.pf_ac.specs.declared.AcPf.{AcPf}
 use Rattle.pf_ac.specs.Search.{Searched, searched}
 use Rattle.pf_ac.specs.WithStart.{ac_pf_of}
-use Rattle.outcome.specs.declared.Solved.{Solved}
 use Rattle.outcome.specs.declared.Refusal.{Refusal}
 use Rattle.outcome.specs.declared.Refusal.TheVariants.{Counts, Room}
 use Rattle.outcome.specs.declared.Lengths.{Lengths}
