@@ -39,6 +39,22 @@ struct Derivatives {
     dvm: Complex,
 }
 
+// The row of a triplet: its bus, and the voltage and the current there.
+#[derive(Clone, Copy)]
+struct Row {
+    bus: usize,
+    v: Complex,
+    i: Complex,
+}
+
+// The column of a triplet: its bus, the voltage there, and the voltage of magnitude one at its angle.
+#[derive(Clone, Copy)]
+struct Column {
+    bus: usize,
+    v: Complex,
+    unit: Complex,
+}
+
 // ---- injections
 
 // The bus number of triplet t, of a column of triplets.
@@ -153,22 +169,14 @@ fn off_diagonal(y: Complex, v: Complex, vk: Complex, u: Complex) -> Derivatives
     Derivatives { dva, dvm }
 }
 
-// The derivatives of the power at bus i by the angle and the magnitude at bus k, as far as one triplet gives them.
-fn derivatives_at(
-    i: usize,
-    k: usize,
-    y: Complex,
-    v: Complex,
-    c: Complex,
-    vk: Complex,
-    u: Complex,
-) -> Derivatives
-    ensures { result ≡ derivatives_of i k y v c vk u }
+// The derivatives of the power at the row's bus by the angle and the magnitude at the column's, as far as one triplet gives them.
+fn derivatives_at(y: Complex, row: Row, col: Column) -> Derivatives
+    ensures { result ≡ derivatives_of row.bus col.bus y row.v row.i col.v col.unit }
 {
-    if i == k {
-        return on_diagonal(y, v, c, u);
+    if row.bus == col.bus {
+        return on_diagonal(y, row.v, row.i, col.unit);
     }
-    off_diagonal(y, v, vk, u)
+    off_diagonal(y, row.v, col.v, col.unit)
 }
 
 // Adds an entry where its row and its column exist.
@@ -176,10 +184,8 @@ fn enter(w: &mut [f64], row: usize, col: usize, x: f64)
     requires { 4160 ≤ length w.old }
     ensures { w.new ≡ entered row col x w.old }
 {
-    if row < layout::NONE {
-        if col < layout::NONE {
-            linsolve::add_entry(w, row, col, x);
-        }
+    if row < layout::NONE && col < layout::NONE {
+        linsolve::add_entry(w, row, col, x);
     }
 }
 
@@ -218,7 +224,17 @@ pub fn ac_jacobian(
         let i = bus(y.row, t, n);
         let k = bus(y.col, t, n);
         let entry = Complex::new(y.re[t], y.im[t]);
-        let d = derivatives_at(i, k, entry, s.v[i], s.i[i], s.v[k], unit[k]);
+        let row = Row {
+            bus: i,
+            v: s.v[i],
+            i: s.i[i],
+        };
+        let col = Column {
+            bus: k,
+            v: s.v[k],
+            unit: unit[k],
+        };
+        let d = derivatives_at(entry, row, col);
         let p_row = layout.va_of[i];
         let q_row = layout.vm_of[i];
         let va_col = layout.va_of[k];

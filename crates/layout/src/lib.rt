@@ -40,7 +40,7 @@ pub struct AcPfLayout {
     pub dim: usize,
 }
 
-// Magnitudes and angles of the buses; the places past them are 0.0.
+// Magnitudes and angles of the buses, by bus number.
 #[derive(Clone, Copy)]
 pub struct Point {
     pub vm: [f64; 32],

@@ -3,8 +3,8 @@ use mathlib.Core.Path.{sym, ◌∙◌}
 use Rattle.injections.specs.Jacobian.Laws.{derivatives-on, derivatives-off}
 use Rattle.injections.proofs.derivatives_at.Goals as goal
 
-pub returns-then-i-k : goal.returns-then-i-k
-returns-then-i-k c = c.on_diagonal.ensures ∙ sym (derivatives-on _ _ _ _ _ _ _ c.if-i-k.true)
+pub returns-then-row-col : goal.returns-then-row-col
+returns-then-row-col c = c.on_diagonal.ensures ∙ sym (derivatives-on _ _ _ _ _ _ _ c.if-row-col.true)
 
 pub returns : goal.returns
-returns c = c.off_diagonal.ensures ∙ sym (derivatives-off _ _ _ _ _ _ _ c.if-i-k.false)
+returns c = c.off_diagonal.ensures ∙ sym (derivatives-off _ _ _ _ _ _ _ c.if-row-col.false)
