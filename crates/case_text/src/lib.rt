@@ -1,13 +1,14 @@
 // What a case text of either edition is answered: its length, its trailer, its alphabet, its sections in turn, and the room in the columns.
 #![tactic(auto)]
 
-ghost use Rattle.std.specs.Prelude.{◌≡◌, true, ◌+◌, ◌<◌, ◌≤◌, length, MatchOption};
+ghost use Rattle.std.specs.Prelude.{◌≡◌, true, ◌+◌, ◌<◌, ◌≤◌, [], ◌∷◌, length, MatchOption};
 ghost use Rattle.std.proofs.Math.Seq.{slice};
+ghost use Rattle.real.specs.declared.Value.TheVariants.{Whole};
 ghost use Rattle.fields.specs.Cut.{has};
 ghost use Rattle.trailer.specs.Trailer.{trailer_length, trailer_of, Starts};
 ghost use Rattle.case_text.specs.Alphabet.{alphabet_of, known_of};
 ghost use Rattle.case_text.specs.Text.{refusal_of, part_of, triplet_part_of, body_of, checked_text};
-ghost use Rattle.case_text.specs.Answer.{judged_of};
+ghost use Rattle.case_text.specs.Answer.{judged_of, refusal_number, refusal_values};
 
 use network::Rows;
 use rows::{Fault, Section};
@@ -32,6 +33,38 @@ pub enum Refusal {
     Form(usize),
     Field(usize),
     Room,
+}
+
+impl Refusal {
+    // Its number.
+    pub fn number(self) -> usize
+        ensures { result ≡ refusal_number self }
+    {
+        match self {
+            Refusal::Length(_) => 1,
+            Refusal::Trailer(_) => 2,
+            Refusal::Byte(_) => 3,
+            Refusal::Rows(_) => 6,
+            Refusal::Form(_) => 4,
+            Refusal::Field(_) => 5,
+            Refusal::Room => 9,
+        }
+    }
+
+    // Its place, which refusal 9 has not.
+    pub fn place(self) -> Option<usize>
+        ensures { MatchOption result (refusal_values self ≡ []) (λ at. refusal_values self ≡ Whole at ∷ []) }
+    {
+        match self {
+            Refusal::Length(at)
+            | Refusal::Trailer(at)
+            | Refusal::Byte(at)
+            | Refusal::Rows(at)
+            | Refusal::Form(at)
+            | Refusal::Field(at) => Some(at),
+            Refusal::Room => None,
+        }
+    }
 }
 
 // A section's fault is the text's.

@@ -33,14 +33,9 @@ fn put_unread(r: case_text::Refusal, printer: &mut Printer)
     requires { HasRoom printer.old buffer_size }
     ensures { Printed (refusal_of (Reader.paper_of (Err r))) buffer_size printer.old printer.new }
 {
-    match r {
-        case_text::Refusal::Length(at) => printer.put_refused(1, &[Value::Whole(at)]),
-        case_text::Refusal::Trailer(at) => printer.put_refused(2, &[Value::Whole(at)]),
-        case_text::Refusal::Byte(at) => printer.put_refused(3, &[Value::Whole(at)]),
-        case_text::Refusal::Rows(at) => printer.put_refused(6, &[Value::Whole(at)]),
-        case_text::Refusal::Form(at) => printer.put_refused(4, &[Value::Whole(at)]),
-        case_text::Refusal::Field(at) => printer.put_refused(5, &[Value::Whole(at)]),
-        case_text::Refusal::Room => printer.put_refused(9, &[]),
+    match r.place() {
+        Some(at) => printer.put_refused(r.number(), &[Value::Whole(at)]),
+        None => printer.put_refused(r.number(), &[]),
     }
 }
 

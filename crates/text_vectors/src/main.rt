@@ -9,8 +9,8 @@ ghost use Rattle.vectors.specs.Words.{pair_of, Tells, Found};
 ghost use Rattle.network.specs.Columns.{buses_in, slacks_in, generators_in, branches_in, triplets_in, values_in, network_lent, branch_table_lent};
 ghost use Rattle.trailer.specs.Trailer.{flat_letter, mode_of};
 ghost use Rattle.real.specs.Each.{each};
-ghost use Rattle.real.specs.Paper.{given, place_in};
-ghost use Rattle.case_text.specs.Answer.{refusal_number, refusal_values, paper_of};
+ghost use Rattle.real.specs.Paper.{given};
+ghost use Rattle.case_text.specs.Answer.{paper_of};
 ghost use Rattle.reader.specs.Reader.{columns_of, read_of};
 ghost use Rattle.text_vectors.specs.Told.{refusal, rows_in, branch_rows, triplet_rows, rows_told, edition_by, paper_told, width_told, word_told};
 ghost use Rattle.text_vectors.specs.Told.{buses_told, slacks_told, generators_told, branches_told, triplets_told, values_told, outcome_told, Agrees};
@@ -99,36 +99,6 @@ fn holds<T: Cell>(s: &[u8; 600000], j: usize, col: &[T]) -> bool
     true
 }
 
-// The refusal's number.
-fn number(r: Refusal) -> usize
-    ensures { result ≡ refusal_number r }
-{
-    match r {
-        Refusal::Length(_) => 1,
-        Refusal::Trailer(_) => 2,
-        Refusal::Byte(_) => 3,
-        Refusal::Rows(_) => 6,
-        Refusal::Form(_) => 4,
-        Refusal::Field(_) => 5,
-        Refusal::Room => 9,
-    }
-}
-
-// The refusal's place, and 0 where it has none.
-fn place(r: Refusal) -> usize
-    ensures { result ≡ place_in (refusal_values r) }
-{
-    match r {
-        Refusal::Length(at)
-        | Refusal::Trailer(at)
-        | Refusal::Byte(at)
-        | Refusal::Rows(at)
-        | Refusal::Form(at)
-        | Refusal::Field(at) => at,
-        Refusal::Room => 0,
-    }
-}
-
 // Whether the input says this refusal. Refusal 9 has no place.
 fn refused(s: &[u8; 600000], n: usize, at: usize) -> bool
     requires { 0 < n }
@@ -214,7 +184,7 @@ fn answered(s: &[u8; 600000], v: Result<Contents, Refusal>) -> bool
 {
     match v {
         Ok(c) => good(s, c),
-        Err(r) => refused(s, number(r), place(r)),
+        Err(r) => refused(s, r.number(), r.place().unwrap_or(0)),
     }
 }
 
