@@ -15,11 +15,7 @@ use network::{
 use outcome::AnswerColumnsMut;
 
 // Reads a text by the first edition's rules and solves its tables. The columns hold a solved answer.
-pub fn answer_first(
-    text: &[u8],
-    out: &mut AnswerColumnsMut,
-    w: &mut [f64],
-) -> Result<Read, Refusal>
+pub fn answer_first(text: &[u8], out: &mut AnswerColumnsMut, w: &mut [f64]) -> Result<Read, Refusal>
     ensures answer { answered_with result (outs_lent out.new) blank_flows w.new ≡ first_answer text.now (outs_lent out.old) w.old }
     ensures few { Few result }
     ensures same_columns { SameOuts out.old out.new }

@@ -24,7 +24,7 @@ pub returns-clause-answer : goal.returns-clause-answer
 returns-clause-answer c =
     let rows = c.in_ok-c.c.rows in
     let tables = c.first.ensures
-        ∙ (λ i. first_rows rows (network_of (c.read.ensures i) (c.read-2.ensures i) (c.read-3.ensures i) (c.read-4.ensures i) (c.read-5.ensures i))) in
+    ∙ (λ i. first_rows rows (network_of (c.read.ensures i) (c.read-2.ensures i) (c.read-3.ensures i) (c.read-4.ensures i) (c.read-5.ensures i))) in
     first_read _ _ _ c.in_ok-c.ensures.read _ refl _ _ c.solve-outcome.result _ _
     (c.solve-outcome.ensures.answer ∙ ap (λ t. solve_of c.in_ok-c.c.start t (outs_lent c.args.out.now) c.args.w.now) tables)
 

@@ -24,7 +24,7 @@ pub returns-clause-answer : goal.returns-clause-answer
 returns-clause-answer c =
     let rows = c.in_ok-c.c.rows in
     let tables = c.first.ensures
-        ∙ (λ i. first_branch_rows rows (branch_network_of (c.read.ensures i) (c.read-2.ensures i) (c.read-3.ensures i) (branch_table_of (c.read-4.ensures i) (c.read-5.ensures i)))) in
+    ∙ (λ i. first_branch_rows rows (branch_network_of (c.read.ensures i) (c.read-2.ensures i) (c.read-3.ensures i) (branch_table_of (c.read-4.ensures i) (c.read-5.ensures i)))) in
     second-read _ _ _ c.in_ok-c.ensures.read _ refl _ _ c.solve-outcome.result _ _ _
     (c.solve-outcome.ensures.answer
     ∙ (λ i. solve_branches_of c.in_ok-c.c.start (tables i) (outs_lent c.args.out.now) (c.requires i) c.args.w.now))
