@@ -18,6 +18,14 @@ use Rattle.case_text.specs.declared.Refusal.{Refusal}
 
 -- ---- a section's
 
+-- what a section's refusal is of the text
+abbrev pub section_refusal : Check → Reading
+section_refusal v = then_section v (λ n. Err Refusal.Room)
+
+pub refusal : (v : Check) (k : ℕ → Reading) → ((n : ℕ) → v ≡ Ok n → ⊥) → then_section v k ≡ section_refusal v
+refusal (Ok n) k h = absurd (h n refl)
+refusal (Err f) k h = refl
+
 pub on-fault : {v : Check} {f : Fault} (k : ℕ → Reading) → Err f ≡ v → then_section v k ≡ Err (refusal_of f)
 on-fault k h = rw (← h)
 

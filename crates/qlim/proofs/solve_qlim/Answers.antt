@@ -4,7 +4,7 @@ use native.Mathlib.Omega.{arith}
 use lib.Ieee.{div, of_bits}
 use Rattle.newton.specs.Newton.Laws.{fuel}
 use Rattle.qlim.specs.Rounds.Laws.{rounds-begin}
-use Rattle.qlim.proofs.Rounds.{rounds-end, rounds-on, rounds-last}
+use Rattle.qlim.proofs.Rounds.{rounds-end, rounds-go_on, rounds-last}
 use Rattle.qlim.proofs.solve_qlim.Goals as goal
 use Rattle.qlim.proofs.solve_qlim.Goals.{then-is_some, else-is_some}
 
@@ -17,7 +17,7 @@ pub loop-preserved : goal.loop-preserved
 loop-preserved c = (
   omega arith,
   c.steps-e.auto.w ∙ c.loop.invariant.1,
-  sym (rounds-on _ _ _ _ _ _ _ c.steps-e.ensures _ (rw c.in-Some.is at c.moves_after.ensures) _ _ c.kinds_after-next.ensures _ c.track_after-t.ensures _ c.pin-p-in-loop.ensures)
+  sym (rounds-go_on _ _ _ _ _ _ _ c.steps-e.ensures _ (rw c.in-Some.is at c.moves_after.ensures) _ _ c.kinds_after-next.ensures _ c.track_after-t.ensures _ c.pin-p-in-loop.ensures)
       ∙ (rw (fuel 11 _ c.loop-test.true) at c.loop.invariant.2),
 )
 
