@@ -6,7 +6,7 @@ ghost use Rattle.std.proofs.Math.Seq.{slice};
 ghost use Rattle.real.specs.declared.Value.TheVariants.{Whole};
 ghost use Rattle.fields.specs.Cut.{has};
 ghost use Rattle.trailer.specs.Trailer.{trailer_length, trailer_of, Starts};
-ghost use Rattle.case_text.specs.Alphabet.{alphabet_of, known_of};
+ghost use Rattle.case_text.specs.Alphabet.{alphabet, alphabet_of, known_of};
 ghost use Rattle.case_text.specs.Text.{refusal_of, part_of, triplet_part_of, body_of, checked_text};
 ghost use Rattle.case_text.specs.Answer.{judged_of, refusal_number, refusal_values};
 
@@ -80,14 +80,21 @@ impl From<Fault> for Refusal {
     }
 }
 
+// Whether a byte is of the first edition's alphabet. Most bytes of a text are digits, so these are looked for first.
+fn known_first(b: u8) -> bool
+    ensures { result ≡ has b alphabet }
+{
+    let all = b"\n -.0123456789?BRGLYVQ";
+    b.is_ascii_digit() || all.contains(&b)
+}
+
 // Whether a byte is of an edition's alphabet.
 fn known(b: u8, x: Edition) -> bool
     ensures { result ≡ has b (alphabet_of x) }
 {
-    let first = b"\n -.0123456789?BRGLYVQ";
     match x {
-        Edition::First => first.contains(&b),
-        Edition::Second => b == b'K' || first.contains(&b),
+        Edition::First => known_first(b),
+        Edition::Second => known_first(b) || b == b'K',
     }
 }
 
@@ -137,7 +144,7 @@ fn body(s: &[u8], t: usize, x: Edition) -> Result<Contents, Refusal>
     };
     Ok(Contents {
         edition: x,
-        start: x.start(s[t]).unwrap_or(AcStart::Case),
+        start: x.mode(s[t]),
         rows,
     })
 }

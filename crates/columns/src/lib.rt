@@ -16,7 +16,9 @@ use network::{
     ValueColumnsMut,
 };
 
-// Piece n between the spaces of a line, empty where there is none.
+// Piece n between the spaces of a line, empty where there is none. Inlined it makes the search for the line's end in `fill` take nine instructions a byte
+// in place of five.
+#[inline(never)]
 fn piece(l: &[u8], n: usize) -> &[u8]
     ensures { result.now ≡ get_or (pieces 32 l.now) n [] }
 {

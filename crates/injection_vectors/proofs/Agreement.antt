@@ -2,7 +2,7 @@
 -- to begin from. Assumes nothing.
 use Rattle.std.specs.Prelude.{ℕ, ◌+◌, ◌*◌, ◌≤◌, ◌<◌, ◌≡◌, Bool, List, [], ◌∷◌, length, get_or, take, replicate, Float, Option, Some, None, is_some, true, false, not}
 use Rattle.std.specs.Float.{nan}
-use Rattle.std.proofs.Common.{refl, sym, ◌∙◌, ext_get_or, length-take-le}
+use Rattle.std.proofs.Common.{refl, sym, ◌∙◌, le_refl, ext_get_or, length-take-le}
 use Rattle.std.proofs.lemmas.List.{length-replicate, get_or-replicate, get_or-take}
 use Rattle.real.specs.Each.{each}
 use Rattle.real.specs.Each.Laws.{length-each, is-each}
@@ -27,6 +27,10 @@ pub first_told : {A : Type 0} (f : ℕ → A) (n m : ℕ) (z : A) → n ≤ m �
 first_told f n m z h =
     let long : n ≤ length (stores f n (replicate m z)) = rw (stores-length, length-replicate) h in
     is-each n f z _ (length-take-le n _ long) (λ i p. get_or-take n _ i z p ∙ stores_at f n (replicate m z) i z p (rw length-replicate h))
+
+-- a list that is written over whole is what was written, whatever it held
+written_over : {A : Type 0} (f : ℕ → A) (d : A) (l : List A) → stores f (length l) l ≡ each (length l) f
+written_over f d l = is-each (length l) f d (stores f (length l) l) (stores-length f (length l) l) (λ i h. stores_at f (length l) l i d h (le_refl (length l)))
 
 -- lists of one length that are alike at every place are the same
 pub alike : {A : Type 0} (xs ys : List A) → length xs ≡ length ys → ((d : A) (i : ℕ) → i < length xs → get_or xs i d ≡ get_or ys i d) → xs ≡ ys

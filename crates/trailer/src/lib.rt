@@ -2,7 +2,7 @@
 #![tactic(auto)]
 
 ghost use Rattle.std.specs.Prelude.{◌≡◌, ◌+◌, ◌*◌, ◌≤◌, ◌<◌, length};
-ghost use Rattle.trailer.specs.Trailer.{groups_of, width_of, trailer_length, trailer_start, group_at, group_number, rising_of, asked_of, edition_of};
+ghost use Rattle.trailer.specs.Trailer.{groups_of, width_of, trailer_length, trailer_start, group_at, group_number, rising_of, mode_of, asked_of, edition_of};
 ghost use Rattle.trailer.specs.Trailer.{trailer_by, trailer_of, index_of, behind_g, last_of, section_start, section_end, places_of};
 
 use rows::Section;
@@ -54,6 +54,13 @@ impl Edition {
             (Edition::First, b'C') | (Edition::Second, b'c') => Some(AcStart::Case),
             _ => None,
         }
+    }
+
+    // The start that a good trailer asks for by its flag; of a byte that is no flag it is the case start.
+    pub fn mode(self, flag: u8) -> AcStart
+        ensures { result ≡ mode_of self flag }
+    {
+        self.start(flag).unwrap_or(AcStart::Case)
     }
 
     // The section behind G.

@@ -6,7 +6,6 @@ use Rattle.rows.specs.declared.Section.{Section}
 use Rattle.rows.specs.Rows.{Check}
 use Rattle.trailer.specs.declared.Edition.{Edition}
 use Rattle.trailer.specs.Trailer.{behind_g}
-use Rattle.trailer.specs.Trailer.Laws.{asked-mode}
 use Rattle.case_text.specs.Text.{Reading, part_of, triplet_part_of, after_y, after_l, after_g, after_r, after_b, body_by, body_of}
 use Rattle.case_text.proofs.Refusals.{on-fault, on-good}
 use Rattle.case_text.proofs.body.Goals as goal
@@ -87,4 +86,4 @@ returns c =
     let g = after-g a.x a.s.now a.t _ _ _ r c.in_ok-generators.ensures in
     let l = after-l a.x a.s.now a.t _ _ _ _ g (behind-part a.x a.s.now a.t c.behind_g.ensures c.in_ok-branches.ensures) in
     let y = after-y a.x a.s.now a.t _ _ _ _ _ l c.in_ok-triplets.ensures in
-    rw (y, c.unwrap_or.ensures, c.start.ensures, asked-mode)
+    rw (y, c.mode.ensures)

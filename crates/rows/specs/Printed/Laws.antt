@@ -147,13 +147,17 @@ module _ (rule : DigitRule) where
       (λ q. never (Fault.Field at) tt (rw q at h))
       (decided (good_by rule (want_of z j) f))
 
+  line-fields : (z : Section) (at : ℕ) (l : List ℕ) → form_of z (pieces 32 l) ≡ true → line_by rule z at l ≡ Ok tt
+      → fields_by rule z 0 (at + 2) (fields_in l) ≡ Ok tt
+  line-fields z at l g h = rw g at h
+
   line-sound : (z : Section) (at : ℕ) (l : List ℕ) (w : Check) (n : ℕ) → after (line_by rule z at l) w ≡ Ok n → SoundBy z (fields_in l)
   line-sound z at l w n h =
       let g = line-form rule z at l w n h in
       let m = after_first_lem (line_by rule z at l) w n h in
       record {
         count = counted z (pieces 32 l) g;
-        good = λ j k. rw (zero-add j) at (fields-good z 0 (at + 2) (fields_in l) (rw g at m) j k);
+        good = λ j k. rw (zero-add j) at (fields-good z 0 (at + 2) (fields_in l) (line-fields z at l g m) j k);
       }
 
   lines-sound : (z : Section) (r at : ℕ) (ps : List (List ℕ)) (n : ℕ) → section_by rule z r at ps ≡ Ok n → (k : ℕ) → k < length (ended ps)
