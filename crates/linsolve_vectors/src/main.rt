@@ -98,7 +98,8 @@ fn agrees(s: &[u8], dim: usize, answer: u64) -> bool
     holds(w, s, size(dim) * 8, dim)
 }
 
-// Whether one system agrees; None where the input has no whole system left.
+// Whether one system agrees; None where the input has no whole system left. Inlined into the loop over the systems it takes a quarter more time.
+#[inline(never)]
 fn next(head: &mut [u8; 16], body: &mut [u8; 66560]) -> Option<bool>
     ensures { Found result (Agrees body.new (word_of 0 head.new) (word_of 8 head.new)) }
 {
